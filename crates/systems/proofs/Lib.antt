@@ -1,0 +1,5 @@
+pub mod Rows
+pub mod Counts
+pub mod Exactness
+pub mod Agreeing
+pub mod Loops

@@ -1,0 +1,9 @@
+pub mod Numbers
+pub mod Faults
+pub mod Model
+pub mod Below
+pub mod Passes
+pub mod Tabled
+pub mod Written
+pub mod Counted
+pub mod laws

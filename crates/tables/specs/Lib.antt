@@ -1,0 +1,4 @@
+pub mod Files
+pub mod Conditions
+pub mod Bodies
+pub mod laws
