@@ -1,0 +1,11 @@
+pub mod Walks
+pub mod Colours
+pub mod Values
+pub mod Levels
+pub mod Abstractions
+pub mod Boards
+pub mod Groupings
+pub mod Chains
+pub mod Theorems
+pub mod Paths
+pub mod PathTheorems

@@ -1,0 +1,13 @@
+pub mod Contrary
+pub mod Listing
+pub mod Rules
+pub mod Filling
+pub mod Steps
+pub mod Scans
+pub mod Parts
+pub mod Complete
+pub mod Sound
+pub mod Places
+pub mod Whole
+pub mod Exact
+pub mod Worked

@@ -1,0 +1,9 @@
+pub mod Formulas
+pub mod Clauses
+pub mod Trees
+pub mod Grammar
+pub mod Rules
+pub mod Texts
+pub mod Reading
+pub mod Theorems
+pub mod reader
