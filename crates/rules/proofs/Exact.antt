@@ -8,15 +8,18 @@ use lib.ListN.{length, take, drop, take-append-drop}
 use lib.Seq.{take-take}
 use Rattle.std.proofs.shelf.Lists.{length-take-le, take-all}
 use Rattle.std.proofs.shelf.Tests.{cases-order, cases-lt}
+use Rattle.std.specs.declared.option.Option.the-variants.{Some}
 use Rattle.std.specs.declared.result.Result.{Result}
 use Rattle.std.specs.declared.result.Result.the-variants.{Ok, Err}
 use Rattle.systems.specs.declared.refusals.Refusal.the-variants.{NotARule}
 use Rattle.systems.specs.declared.refusals.Fault.{Fault}
+use Rattle.systems.specs.Faults.{at-place}
+use Rattle.systems.specs.Numbers.{refusal-number}
 use Rattle.rules.specs.declared.rule.Rule.{Rule}
 use Rattle.rules.specs.Trees.{Tree, nesting, normal-form}
-use Rattle.rules.specs.Clauses.{size}
+use Rattle.rules.specs.Clauses.{size, clauses}
+use Rattle.rules.specs.Rules.{clause-list}
 use Rattle.rules.specs.Grammar.{Begins}
-use Rattle.systems.specs.Faults.{at-place}
 use Rattle.rules.specs.Reading.{No-rule, Is-rule, Refused, bad-length, no-rule, too-deep, too-many, Accepted, Answers}
 use Rattle.rules.specs.Theorems.{Spelled-once, Exactly, Answered-exactly, Cut-alike}
 use Rattle.rules.proofs.Complete.{unambiguous}
@@ -36,6 +39,20 @@ one-place text i j a b = by (cases-order i j)
     by (inr (inl l)) = absurd (a .ends (omega (arith, b .inside)) (fewer text (i + 1) j (omega arith) (b .begins)))
     by (inr (inr l)) = absurd (b .ends (omega (arith, a .inside)) (fewer text (j + 1) i (omega arith) (a .begins)))
 
+-- the number of an answer, 0 for a rule: answers with two numbers are not one answer
+abbrev number : Result Rule Fault → ℕ
+number (Ok r) = 0
+number (Err f) = refusal-number (f .refusal)
+
+same-number : {r x y : Result Rule Fault} → r ≡ x → r ≡ y → number x ≡ number y
+same-number p q = ap number (sym p ∙ q)
+
+same-place : (f : Fault) (k j : ℕ) → f ≡ at-place NotARule k → _≡_ {A = Result Rule Fault} (Err f) (Err (at-place NotARule j)) → k ≡ j
+same-place f k j e q =
+    let z : f ≡ at-place NotARule j = cc in
+    let w : Some k ≡ Some j = ap (λ g. g .place) (sym e ∙ z) in
+    cc
+
 module _ (text : List ℕ) where
   -- the nesting and the number of clauses are those of the one tree that is spelled
   same-nesting : (s q : Tree) → Is-rule text s → Is-rule text q → nesting s ≡ nesting q
@@ -46,41 +63,49 @@ module _ (text : List ℕ) where
 
   refused-exactly : (f : Fault) → Refused text f → Exactly text (Err f)
   refused-exactly f (bad-length z e) = record {
-    length = λ _. ap Err e;
-    place = λ k y n. absurd (z y);
-    deep = λ s y n. absurd (z (y .0));
-    many = λ s y n m. absurd (z (y .0));
-    rule = λ s y n m. absurd (z (y .0));
+    unsized = ((λ _. z), λ _. ap Err e);
+    unruled = λ k. ((λ q. absurd (omega (arith, same-number (ap Err e) q))), λ y. absurd (z (y .0)));
+    deep = ((λ q. absurd (omega (arith, same-number (ap Err e) q))), λ y. absurd (z (y .1 .0)));
+    many = ((λ q. absurd (omega (arith, same-number (ap Err e) q))), λ y. absurd (z (y .1 .0)));
+    ruled = ((λ q. absurd (omega (arith, same-number (ap Err e) (q .1)))), λ y. absurd (z (y .1 .0)));
+    read = λ x q. absurd (omega (arith, same-number (ap Err e) q));
   }
   refused-exactly f (no-rule k z a e) = record {
-    length = λ y. absurd (y z);
-    place = λ j y b. ap Err e ∙ ap (λ i. Err (at-place NotARule i)) (one-place text k j a b);
-    deep = λ s y n. absurd (a .unspelled s (y .1));
-    many = λ s y n m. absurd (a .unspelled s (y .1));
-    rule = λ s y n m. absurd (a .unspelled s (y .1));
+    unsized = ((λ q. absurd (omega (arith, same-number (ap Err e) q))), λ y. absurd (y z));
+    unruled = λ j. ((λ q. (z, subst (No-rule text) (same-place f k j e q) a)), λ y. ap Err e ∙ ap (λ i. Err (at-place NotARule i)) (one-place text k j a (y .1)));
+    deep = ((λ q. absurd (omega (arith, same-number (ap Err e) q))), λ y. absurd (a .unspelled (y .0) (y .1 .1)));
+    many = ((λ q. absurd (omega (arith, same-number (ap Err e) q))), λ y. absurd (a .unspelled (y .0) (y .1 .1)));
+    ruled = ((λ q. absurd (omega (arith, same-number (ap Err e) (q .1)))), λ y. absurd (a .unspelled (y .0) (y .1 .1)));
+    read = λ x q. absurd (omega (arith, same-number (ap Err e) q));
   }
   refused-exactly f (too-deep s z d e) = record {
-    length = λ y. absurd (y (z .0));
-    place = λ k y n. absurd (n .unspelled s (z .1));
-    deep = λ q y n. ap Err e;
-    many = λ q y n m. absurd (omega (arith, same-nesting s q z y));
-    rule = λ q y n m. absurd (omega (arith, same-nesting s q z y));
+    unsized = ((λ q. absurd (omega (arith, same-number (ap Err e) q))), λ y. absurd (y (z .0)));
+    unruled = λ k. ((λ q. absurd (omega (arith, same-number (ap Err e) q))), λ y. absurd (y .1 .unspelled s (z .1)));
+    deep = ((λ q. (s, z, d)), λ y. ap Err e);
+    many = ((λ q. absurd (omega (arith, same-number (ap Err e) q))), λ y. absurd (omega (arith, same-nesting s (y .0) z (y .1), y .2)));
+    ruled = ((λ q. absurd (omega (arith, same-number (ap Err e) (q .1)))), λ y. absurd (omega (arith, same-nesting s (y .0) z (y .1), y .2)));
+    read = λ x q. absurd (omega (arith, same-number (ap Err e) q));
   }
   refused-exactly f (too-many s z d w e) = record {
-    length = λ y. absurd (y (z .0));
-    place = λ k y n. absurd (n .unspelled s (z .1));
-    deep = λ q y n. absurd (omega (arith, same-nesting s q z y));
-    many = λ q y n m. ap Err e;
-    rule = λ q y n m. absurd (omega (arith, same-size s q z y));
+    unsized = ((λ q. absurd (omega (arith, same-number (ap Err e) q))), λ y. absurd (y (z .0)));
+    unruled = λ k. ((λ q. absurd (omega (arith, same-number (ap Err e) q))), λ y. absurd (y .1 .unspelled s (z .1)));
+    deep = ((λ q. absurd (omega (arith, same-number (ap Err e) q))), λ y. absurd (omega (arith, same-nesting s (y .0) z (y .1), y .2)));
+    many = ((λ q. (s, z, d, w)), λ y. ap Err e);
+    ruled = ((λ q. absurd (omega (arith, same-number (ap Err e) (q .1)))), λ y. absurd (omega (arith, same-size s (y .0) z (y .1), y .3)));
+    read = λ x q. absurd (omega (arith, same-number (ap Err e) q));
   }
 
   accepted-exactly : (r : Rule) → Accepted text r → Exactly text (Ok r)
   accepted-exactly r a = record {
-    length = λ y. absurd (y (a .is-rule .0));
-    place = λ k y n. absurd (n .unspelled (a .spelled) (a .is-rule .1));
-    deep = λ q y n. absurd (omega (arith, same-nesting (a .spelled) q (a .is-rule) y, a .shallow));
-    many = λ q y n m. absurd (omega (arith, same-size (a .spelled) q (a .is-rule) y, a .few));
-    rule = λ q y n m. (r, refl, a);
+    unsized = ((λ q. absurd (omega (arith, ap number q))), λ y. absurd (y (a .is-rule .0)));
+    unruled = λ k. ((λ q. absurd (omega (arith, ap number q))), λ y. absurd (y .1 .unspelled (a .spelled) (a .is-rule .1)));
+    deep = ((λ q. absurd (omega (arith, ap number q))), λ y. absurd (omega (arith, same-nesting (a .spelled) (y .0) (a .is-rule) (y .1), y .2, a .shallow)));
+    many = ((λ q. absurd (omega (arith, ap number q))), λ y. absurd (omega (arith, same-size (a .spelled) (y .0) (a .is-rule) (y .1), y .3, a .few)));
+    ruled = ((λ q. (a .spelled, a .is-rule, a .shallow, a .few)), λ y. (r, refl));
+    read = λ x q s d.
+        let z : r ≡ x = cc in
+        let w : a .spelled ≡ s = unambiguous (a .is-rule .1) d in
+        subst (λ y. (clause-list y ≡ clauses (normal-form s)) × (y .nesting ≡ nesting s)) z (a .holds ∙ ap (λ t. clauses (normal-form t)) w, a .depth ∙ ap nesting w);
   }
 
 pub answered-exactly : Answered-exactly

@@ -15,9 +15,9 @@ use Rattle.rules.proofs.Exact.{answered-exactly}
 pub places : Places
 unfolding outcome begin go-on joined after step ended finish
 places = (
-  (λ r a. answered-exactly (codes "p16") r a .place 2 (omega arith, omega arith) (no-rule-from (codes "p16") 2 (omega arith) refl)),
-  (λ r a. answered-exactly (codes "(p0 & p1") r a .place 8 (omega arith, omega arith) (no-rule-from (codes "(p0 & p1") 8 (omega arith) refl)),
-  (λ r a. answered-exactly (codes "A X p0") r a .place 1 (omega arith, omega arith) (no-rule-from (codes "A X p0") 1 (omega arith) refl)),
+  (λ r a. answered-exactly (codes "p16") r a .unruled 2 .1 ((omega arith, omega arith), no-rule-from (codes "p16") 2 (omega arith) refl)),
+  (λ r a. answered-exactly (codes "(p0 & p1") r a .unruled 8 .1 ((omega arith, omega arith), no-rule-from (codes "(p0 & p1") 8 (omega arith) refl)),
+  (λ r a. answered-exactly (codes "A X p0") r a .unruled 1 .1 ((omega arith, omega arith), no-rule-from (codes "A X p0") 1 (omega arith) refl)),
 )
 
 pub moved-inward : Moved-inward

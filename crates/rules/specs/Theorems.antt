@@ -1,15 +1,16 @@
 -- What follows for rules and their texts.
 use Prim.Native.Nat.{ℕ, _<_, _≤_}
 use mathlib.Core.Path.{_≡_}
+use mathlib.Core.Logic.{_↔_}
 use mathlib.Core.List.{List}
 use lib.Chars.{codes}
 use lib.ListN.{length, take}
 use Rattle.std.specs.shelf.Lists.{All}
 use Rattle.std.specs.declared.result.Result.{Result}
 use Rattle.std.specs.declared.result.Result.the-variants.{Ok, Err}
-use Rattle.systems.specs.Faults.{without-place, at-place}
 use Rattle.systems.specs.declared.refusals.Refusal.the-variants.{RuleLength, NotARule, NestingDepth, TooManyClauses}
 use Rattle.systems.specs.declared.refusals.Fault.{Fault}
+use Rattle.systems.specs.Faults.{without-place, at-place}
 use Rattle.rules.specs.declared.syntax.Clause.{Clause}
 use Rattle.rules.specs.declared.rule.Rule.{Rule}
 use Rattle.rules.specs.Formulas.{Formula, Marks-below}
@@ -23,14 +24,15 @@ use Rattle.rules.specs.Reading.{Sized, No-rule, Is-rule, Accepted, Answers}
 abbrev pub Spelled-once : Type 0
 Spelled-once = (text : List ℕ) (s q : Tree) → Spells s text → Spells q text → s ≡ q
 
--- the answer to a text is the one that its conditions name: with what `Answers` says of each answer, each is given
--- exactly where its conditions hold
+-- each answer is given exactly where its conditions hold; an accepted text has the clauses and the nesting of each tree,
+-- and so of the one tree, that it spells
 pub record Exactly (text : List ℕ) (r : Result Rule Fault) : Type 0 where
-  pub length : ¬ (Sized text) → r ≡ Err (without-place RuleLength)
-  pub place : (k : ℕ) → Sized text → No-rule text k → r ≡ Err (at-place NotARule k)
-  pub deep : (s : Tree) → Is-rule text s → 32 < nesting s → r ≡ Err (without-place NestingDepth)
-  pub many : (s : Tree) → Is-rule text s → nesting s ≤ 32 → 64 < size (normal-form s) → r ≡ Err (without-place TooManyClauses)
-  pub rule : (s : Tree) → Is-rule text s → nesting s ≤ 32 → size (normal-form s) ≤ 64 → (x : Rule) × (r ≡ Ok x) × Accepted text x
+  pub unsized : (r ≡ Err (without-place RuleLength)) ↔ (¬ (Sized text))
+  pub unruled : (k : ℕ) → (r ≡ Err (at-place NotARule k)) ↔ (Sized text × No-rule text k)
+  pub deep : (r ≡ Err (without-place NestingDepth)) ↔ ((s : Tree) × Is-rule text s × (32 < nesting s))
+  pub many : (r ≡ Err (without-place TooManyClauses)) ↔ ((s : Tree) × Is-rule text s × (nesting s ≤ 32) × (64 < size (normal-form s)))
+  pub ruled : ((x : Rule) × (r ≡ Ok x)) ↔ ((s : Tree) × Is-rule text s × (nesting s ≤ 32) × (size (normal-form s) ≤ 64))
+  pub read : (x : Rule) → r ≡ Ok x → (s : Tree) → Spells s text → (clause-list x ≡ clauses (normal-form s)) × (x .nesting ≡ nesting s)
 
 abbrev pub Answered-exactly : Type 0
 Answered-exactly = (text : List ℕ) (r : Result Rule Fault) → Answers text r → Exactly text r
@@ -59,7 +61,7 @@ Read-formula = (text : List ℕ) (r : Rule) → (a : Accepted text r) → whole 
 
 -- the marks of a formula are those of its clauses
 abbrev pub Marks-listed : Type 0
-Marks-listed = (n : ℕ) (f : Formula) → (Marks-below n f → All (Mark-below n) (clauses f)) × (All (Mark-below n) (clauses f) → Marks-below n f)
+Marks-listed = (n : ℕ) (f : Formula) → Marks-below n f ↔ All (Mark-below n) (clauses f)
 
 -- and where the clauses' marks are below n, so are those of the formula of each clause
 abbrev pub Marks-of-clauses : Type 0
