@@ -1,0 +1,3 @@
+// Tests of `groupings`.
+#[cfg(test)]
+mod groups_tests;

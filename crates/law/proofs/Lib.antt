@@ -1,0 +1,12 @@
+pub mod Numbers
+pub mod Counting
+pub mod Soundness
+pub mod Truth
+pub mod Causing
+pub mod Histories
+pub mod Progress
+pub mod Laws
+pub mod Determined
+pub mod Deciding
+pub mod Answering
+pub mod Fitting
