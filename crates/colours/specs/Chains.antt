@@ -67,8 +67,8 @@ module _ (M : Model) (cs : List Clause) where
   abbrev pub Open : Position → Type 0
   Open p = (p .group < M .states) × (p .clause < length cs) × Has-colour (colours (p .clause)) (p .group) Undecided
 
-  -- clause j at t may follow clause i at s: a part at the same group; for X the part across a possible step;
-  -- for U and V also the same clause across a possible step, where they look
+  -- clause j at t may follow clause i at s: a part where the chain is; of an X the part where a possible step leads;
+  -- of a U or V that looks across steps also the clause itself where a possible step leads
   abbrev pub Follows : Clause → (i s j t : ℕ) → Type 0
   Follows (Constant b) i s j t = ⊥
   Follows (Mark p negated) i s j t = ⊥

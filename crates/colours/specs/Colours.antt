@@ -31,22 +31,22 @@ mark-colouring M p = record { is-T = λ s. M .mark s p ≡ T; is-F = λ s. M .ma
 abbrev pub conjunction : Colouring → Colouring → Colouring
 conjunction r q = record { is-T = λ s. r .is-T s × q .is-T s; is-F = λ s. r .is-F s ⊎ q .is-F s }
 
--- T if a sure step leads to r T, and F if every possible step leads to r F
+-- T where some sure step comes to r T; F where possible steps come to nothing but r F
 abbrev pub E-next : Model → Colouring → Colouring
 E-next M r = record {
   is-T = λ s. (t : ℕ) × Surely M s t × r .is-T t;
   is-F = λ s. (t : ℕ) → Possibly M s t → r .is-F t;
 }
 
--- T if a sure walk has q T at its last state and r T before; F if no possible walk has q not F at its last state and r not F before
+-- T where some sure walk comes to q T and keeps r T until then; F where not even a possible walk comes to q not F and keeps r not F until then
 abbrev pub E-until : Model → Colouring → Colouring → Colouring
 E-until M r q = record {
   is-T = λ s. Until (Surely M) (r .is-T) (q .is-T) s;
   is-F = λ s. ¬ Until (Possibly M) (λ t. ¬ r .is-F t) (λ t. ¬ q .is-F t) s;
 }
 
--- T if a sure walk has q T throughout and a last state where r is T or that stood earlier;
--- F if no possible walk has q not F throughout and a last state where r is not F or that stood earlier
+-- T where some sure walk keeps q T all along and ends at r T or at a state that it had passed before;
+-- F where not even a possible walk keeps q not F all along and ends at r not F or at a state that it had passed before
 abbrev pub E-release : Model → Colouring → Colouring → Colouring
 E-release M r q = record {
   is-T = λ s. Release (Surely M) (r .is-T) (q .is-T) s;
@@ -57,7 +57,7 @@ E-release M r q = record {
 abbrev pub exchanged : (Colouring → Colouring → Colouring) → Colouring → Colouring → Colouring
 exchanged op r q = exchange (op (exchange r) (exchange q))
 
--- |, A(r V q) and A(r U q) follow &, E(r U q) and E(r V q) with T and F exchanged throughout
+-- | is &, AV is EU and AU is EV, each with T and F exchanged throughout
 abbrev pub joined : Model → Operator → Colouring → Colouring → Colouring
 joined M And = conjunction
 joined M Or = exchanged conjunction
@@ -66,7 +66,7 @@ joined M AV = exchanged (E-until M)
 joined M EV = E-release M
 joined M AU = exchanged (E-release M)
 
--- AX follows EX with T and F exchanged throughout
+-- AX is EX with T and F exchanged throughout
 abbrev pub stepped : Model → Quantifier → Colouring → Colouring
 stepped M E r = E-next M r
 stepped M A r = exchange (E-next M (exchange r))
@@ -90,7 +90,7 @@ Told true-if false-if Undecided = ¬ true-if × ¬ false-if
 abbrev pub Has-colour : Colouring → ℕ → Colour → Type 0
 Has-colour c s = Told (c .is-T s) (c .is-F s)
 
--- the verdict is T if the rule is T at all starts, F if it is F at one, else undecided
+-- the verdict: T where every start has the rule T, F where some start has it F, undecided otherwise
 abbrev pub Has-verdict : Model → Formula → Colour → Type 0
 Has-verdict M f = Told
     ((s : ℕ) → Starts M s → colouring M f .is-T s)

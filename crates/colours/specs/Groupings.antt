@@ -62,7 +62,7 @@ module _ (M : Model) (group : ℕ → ℕ) where
   abbrev pub Member : ℕ → ℕ → Type 0
   Member g s = (s < M .states) × (group s ≡ g)
 
-  -- the strength of s into the group h: its surest step to any state there
+  -- the strength of s into the group h: the best that its steps to the members of h offer
   abbrev pub step-into : ℕ → ℕ → ℕ → Step
   step-into s h t = cond (eqb (group t) h) (M .step s t) Absent
 
@@ -87,15 +87,15 @@ module _ (M : Model) (group : ℕ → ℕ) where
   abbrev pub start-in : ℕ → ℕ → Bool
   start-in g s = eqb (group s) g && M .start s
 
-  -- sure if every member of g has a sure strength into h, absent if all have none, else unsure
+  -- sure where no member of g lacks a sure strength into h, absent where no member has any, unsure otherwise
   unfoldable pub group-step : ℕ → ℕ → Step
   group-step g h = cond (every-member g (sure-into h)) Sure (cond (every-member g (absent-into h)) Absent Unsure)
 
-  -- T or F if it is so at all members, else unknown
+  -- the known value that all members share, and unknown where there is none
   unfoldable pub group-mark : ℕ → ℕ → Colour
   group-mark g p = cond (every-member g (true-at M p)) T (cond (every-member g (false-at M p)) F Undecided)
 
-  -- a start if some member is
+  -- one start among its members makes a group a start
   unfoldable pub group-start : ℕ → Bool
   group-start g = any-below (start-in g) (M .states)
 

@@ -28,7 +28,7 @@ pub record Path : Type 0 where
   pub length : Length
   pub at : ℕ → ℕ
 
--- a path from s that cannot be made longer: each state is reached by a step from the one before, and where it ends no step leads on
+-- a path from s that cannot be made longer: a step leads from each state to the next, and where it ends no step leads on
 pub record Maximal (step : ℕ → ℕ → Type 0) (s : ℕ) (path : Path) : Type 0 where
   pub first : path .at 0 ≡ s
   pub steps : (k : ℕ) → Place (path .length) (suc k) → step (path .at k) (path .at (suc k))
@@ -109,7 +109,7 @@ path-colouring M (mark p true) = exchange (mark-colouring M p)
 path-colouring M (next k r) = over-paths M k (next-along (path-colouring M r))
 path-colouring M (pair o r q) = joined-by-paths M o (path-colouring M r) (path-colouring M q)
 
--- the verdict by maximal paths: T if the rule is T at all starts, F if it is F at one, else undecided
+-- the verdict by maximal paths: T where every start has the rule T, F where some start has it F, undecided otherwise
 abbrev pub Has-path-verdict : Model → Formula → Colour → Type 0
 Has-path-verdict M f = Told
     ((s : ℕ) → Starts M s → path-colouring M f .is-T s)

@@ -23,7 +23,7 @@ use Rattle.law.specs.Ledgers.{Ledger, model, Sound}
 use Rattle.law.specs.Calls.{Call, regroup, look, cause, split, Answer, refused, done, judged, looked, caused, Reply, Roomy}
 use Rattle.law.specs.Runs.{Event, Run, ledger-after}
 
--- Truth. Clauses are the same if they read alike: a reply speaks of the formula that a clause reads as.
+-- Truth. A reply speaks of the formula that a clause reads as, whatever the clause's number.
 
 -- where a board keeps the colour of clause c at the group of the state s
 abbrev pub place-at : Ledger → (s c : ℕ) → ℕ

@@ -16,7 +16,7 @@ pub data Tree : Type 0 where
   unary : Prefix → Tree → Tree
   binary : Operator → Tree → Tree → Tree
 
--- 1 for a constant or a mark, and one more than the deepest part for every operator written
+-- a constant or a mark counts 1, and each operator in the text, `!` too, adds 1 to its deepest part
 abbrev pub nesting : Tree → ℕ
 nesting (constant b) = 1
 nesting (mark p) = 1

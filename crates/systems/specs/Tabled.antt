@@ -45,7 +45,7 @@ leads-on steps n s = any-below (leads steps s) n
 abbrev pub In-range : (states marks : ℕ) → Type 0
 In-range n p = (1 ≤ n) × (n ≤ 128) × (1 ≤ p) × (p ≤ 16)
 
--- each state has a possible step out, and some state is a start
+-- no state is without a possible step out, and there is a start
 abbrev pub Goes-and-starts : (states : ℕ) → List Step → List Bool → Type 0
 Goes-and-starts n steps starts = (all-below (leads-on steps n) n ≡ true) × (any-below (start-at starts) n ≡ true)
 

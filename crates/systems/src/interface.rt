@@ -12,7 +12,7 @@ pub trait System {
     // What the system is.
     ghost meaning: { Self → Model };
 
-    // The counts are in range, every state has a possible step out and some state is a start.
+    // The counts are in range, no state is without a possible step out, and there is a start.
     ghost lawful: { (s : Self) → Lawful (meaning s) };
 
     fn states(&self) -> usize

@@ -13,7 +13,7 @@ use Rattle.systems.specs.declared.refusals.Refusal.{Refusal}
 use Rattle.systems.specs.declared.refusals.Refusal.the-variants.{FileLength, CountRange, ContentsEntry, BodiesOverlap, BodyByte, NoStepOut, NoStart}
 use Rattle.tables.specs.Files.{byte, states-of, marks-of, offset, size, cell}
 
--- the file has 14 to 32,768 bytes
+-- from 14 to 32,768 bytes
 abbrev pub sized : List ℕ → Bool
 sized bytes = leb 14 (length bytes) && leb (length bytes) 32768
 
@@ -21,7 +21,7 @@ sized bytes = leb 14 (length bytes) && leb (length bytes) 32768
 abbrev pub counted : (n p : ℕ) → Bool
 counted n p = (leb 1 n && leb n 128) && (leb 1 p && leb p 16)
 
--- the entry has this length, an offset of 14 or more, and its end in the file
+-- the entry tells this length, and its body begins behind the contents and ends with the file or before
 abbrev pub placed : List ℕ → (entry len : ℕ) → Bool
 placed bytes entry len =
     eqb (size bytes entry) len && (leb 14 (offset bytes entry) && leb (offset bytes entry + len) (length bytes))

@@ -117,7 +117,7 @@ pub(super) fn surer(a: Step, b: Step) -> Step
     }
 }
 
-// The strength of a state into a group: its surest step to any state there.
+// The strength of a state into a group: the best that its steps to the members offer.
 pub(super) fn strength<S: System>(
     system: &S,
     members: &Membership,
@@ -157,7 +157,7 @@ pub(super) fn group_step<S: System>(
     common_step(sure, absent)
 }
 
-// The mark at a group: T or F if it is so at every member, else unknown.
+// The mark at a group: the known value that all members share, else unknown.
 pub(super) fn group_mark<S: System>(
     system: &S,
     members: &Membership,
