@@ -1,0 +1,9 @@
+pub mod Placing
+pub mod Heights
+pub mod Raises
+pub mod Rises
+pub mod Falls
+pub mod Looks
+pub mod Turned
+pub mod Stages
+pub mod Reading

@@ -1,0 +1,15 @@
+use Prim.Native.Nat.{ℕ, _+_, _≤_}
+use mathlib.Core.Path.{_≡_}
+use mathlib.Core.List.{List}
+use lib.ListN.{length}
+use Rattle.queue.specs.Held.{held, room}
+use Rattle.systems.specs.Written.{table-model}
+use Rattle.colouring.specs.passes.Rising.{left-above, Rising}
+use Rattle.colouring.proofs.rise.look_back.Given as given
+
+abbrev pub Inv-loop-s : given.InvT-loop-s
+Inv-loop-s l =
+    ((b₀ : List ℕ) → Rising (l .columns) (table-model (l .table)) b₀ (l .entry .board) (held (l .entry .queue)) (table-model (l .table) .states) (l .t) 0
+    → Rising (l .columns) (table-model (l .table)) b₀ (l .board) (held (l .queue)) (table-model (l .table) .states) (l .t) (l .s))
+    × (length (held (l .queue)) + left-above (l .columns) (l .board) ≤ length (held (l .entry .queue)) + left-above (l .columns) (l .entry .board))
+    × (room (l .queue) ≡ room (l .entry .queue))

@@ -1,0 +1,3 @@
+pub mod Colouring
+pub mod Boards
+pub mod passes
