@@ -1,5 +1,7 @@
 // Reads rules from standard input, one a line, and prints how each is read: its clauses by their numbers,
 // or why it is refused.
+#![tactic(auto)]
+
 use lines::LineBuffer;
 use rules::{Rule, read};
 use std::io;

@@ -1,5 +1,7 @@
 // Colouring a board: the colour of every clause of a rule at every state of a table, proved against
 // the definition of colours.
+#![tactic(auto)]
+
 mod asking;
 pub mod boards;
 mod cells;

@@ -1,4 +1,6 @@
 // Colouring a board, and the search for what leaves a rule undecided on it.
+#![tactic(auto)]
+
 pub mod cause;
 pub mod links;
 

@@ -1,4 +1,6 @@
 // Tests of `engine`: colouring and causes.
+#![tactic(auto)]
+
 #[cfg(test)]
 mod cause_tests;
 #[cfg(test)]

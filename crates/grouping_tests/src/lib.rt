@@ -1,3 +1,5 @@
 // Tests of `groupings`.
+#![tactic(auto)]
+
 #[cfg(test)]
 mod groups_tests;

@@ -1,6 +1,8 @@
 // Colours a rule on a table, or refines one group until the rule is decided, as many times as asked, for
 // measuring. Standard input has a rule line and then a table file; the words are `colour` or `refine`, the
 // number of turns, and `time` where the nanoseconds of one turn are to be printed too.
+#![tactic(auto)]
+
 ghost use Rattle.std.specs.Prelude.{◌<◌, length, IfSome};
 
 use anyhow::{Context, anyhow};

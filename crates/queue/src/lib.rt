@@ -1,4 +1,6 @@
 // The waiting queue, one text for every kind of element.
+#![tactic(auto)]
+
 pub mod ring;
 
 pub use ring::Ring;

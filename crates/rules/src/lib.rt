@@ -1,4 +1,6 @@
 // Rules: CTL formulas in negation normal form, read from text.
+#![tactic(auto)]
+
 mod bytes;
 mod clause_list;
 pub mod display;

@@ -1,4 +1,6 @@
 // Tests of `systems` and `tables`, in a crate of their own so that those are not proved twice.
+#![tactic(auto)]
+
 #[cfg(test)]
 mod file_tests;
 #[cfg(test)]

@@ -5,8 +5,8 @@ use crate::interface::System;
 use crate::kinds::{Colour, Step};
 
 pub(crate) fn step_of<S: System>(system: &S, from: usize, to: usize) -> Step
-    requires { (from < (meaning system.now).states) × (to < (meaning system.now).states) }
-    ensures { result ≡ (meaning system.now).step from to }
+    requires { (from < (S.meaning system.now).states) × (to < (S.meaning system.now).states) }
+    ensures { result ≡ (S.meaning system.now).step from to }
 {
     match system.step(from, to) {
         Ok(step) => step,
@@ -15,8 +15,8 @@ pub(crate) fn step_of<S: System>(system: &S, from: usize, to: usize) -> Step
 }
 
 pub(crate) fn mark_of<S: System>(system: &S, state: usize, mark: usize) -> Colour
-    requires { (state < (meaning system.now).states) × (mark < (meaning system.now).marks) }
-    ensures { result ≡ (meaning system.now).mark state mark }
+    requires { (state < (S.meaning system.now).states) × (mark < (S.meaning system.now).marks) }
+    ensures { result ≡ (S.meaning system.now).mark state mark }
 {
     match system.mark(state, mark) {
         Ok(value) => value,
@@ -25,8 +25,8 @@ pub(crate) fn mark_of<S: System>(system: &S, state: usize, mark: usize) -> Colou
 }
 
 pub(crate) fn start_of<S: System>(system: &S, state: usize) -> bool
-    requires { state < (meaning system.now).states }
-    ensures { result ≡ (meaning system.now).start state }
+    requires { state < (S.meaning system.now).states }
+    ensures { result ≡ (S.meaning system.now).start state }
 {
     match system.start(state) {
         Ok(start) => start,

@@ -1,4 +1,6 @@
 // Partly known systems of steps behind one interface, and the numbers that answers and refusals go by.
+#![tactic(auto)]
+
 mod asking;
 pub mod counting;
 pub mod interface;

@@ -1,4 +1,6 @@
 // The table file: a system of steps as its builder writes it.
+#![tactic(auto)]
+
 mod bodies;
 mod contents;
 mod file;

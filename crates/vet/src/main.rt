@@ -1,4 +1,6 @@
 // Reads a table file from standard input and tells what it holds, or why it is refused.
+#![tactic(auto)]
+
 use std::io;
 use std::io::Read;
 use tables::vet;

@@ -1,6 +1,8 @@
 // Vets one table file for each line of standard input, so that many are compared in one run.
 // A line has the file's bytes as pieces with spaces between: hexadecimal digits, or one byte, `x` and
 // how many times it stands there.
+#![tactic(auto)]
+
 use anyhow::anyhow;
 use std::io::{BufRead, BufReader};
 use tables::vet;

@@ -119,8 +119,8 @@ pub(super) fn strength<S: System>(
     from: usize,
     group: usize,
 ) -> Step
-    requires { from < (meaning system.now).states }
-    ensures { result ≡ strength (meaning system.now) (group_of (groups_of members.now)) from group }
+    requires { from < (S.meaning system.now).states }
+    ensures { result ≡ strength (S.meaning system.now) (group_of (groups_of members.now)) from group }
 {
     let mut best = Step::Absent;
     for to in 0..system.states() {
@@ -138,7 +138,7 @@ pub(super) fn group_step<S: System>(
     from: usize,
     to: usize,
 ) -> Step
-    ensures { result ≡ group_step (meaning system.now) (group_of (groups_of members.now)) from to }
+    ensures { result ≡ group_step (S.meaning system.now) (group_of (groups_of members.now)) from to }
 {
     let mut sure = true;
     let mut absent = true;
@@ -159,8 +159,8 @@ pub(super) fn group_mark<S: System>(
     group: usize,
     mark: usize,
 ) -> Colour
-    requires { mark < (meaning system.now).marks }
-    ensures { result ≡ group_mark (meaning system.now) (group_of (groups_of members.now)) group mark }
+    requires { mark < (S.meaning system.now).marks }
+    ensures { result ≡ group_mark (S.meaning system.now) (group_of (groups_of members.now)) group mark }
 {
     let mut all_true = true;
     let mut all_false = true;
@@ -176,7 +176,7 @@ pub(super) fn group_mark<S: System>(
 
 // Whether some member of a group is a start.
 pub(super) fn group_start<S: System>(system: &S, members: &Membership, group: usize) -> bool
-    ensures { result ≡ group_start (meaning system.now) (group_of (groups_of members.now)) group }
+    ensures { result ≡ group_start (S.meaning system.now) (group_of (groups_of members.now)) group }
 {
     let mut found = false;
     for state in 0..system.states() {

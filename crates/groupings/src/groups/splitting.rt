@@ -36,9 +36,9 @@ fn group_in(reason: Reason) -> usize
 
 // The number of a state's mark, or of its strength into the target.
 fn answer<S: System>(system: &S, members: &Membership, reason: Reason, state: usize) -> u8
-    requires low { state < (meaning system.now).states }
-    requires within { Within (group_count (groups_of members.now)) (meaning system.now).marks reason }
-    ensures { result ≡ answer_number (meaning system.now) (group_of (groups_of members.now)) reason state }
+    requires low { state < (S.meaning system.now).states }
+    requires within { Within (group_count (groups_of members.now)) (S.meaning system.now).marks reason }
+    ensures { result ≡ answer_number (S.meaning system.now) (group_of (groups_of members.now)) reason state }
 {
     match reason {
         Reason::UnknownMark { mark, .. } => mark_of(system, state, mark).number(),
@@ -55,9 +55,9 @@ fn departs<S: System>(
     lead: u8,
     state: usize,
 ) -> bool
-    requires low { state < (meaning system.now).states }
-    requires within { Within (group_count (groups_of members.now)) (meaning system.now).marks reason }
-    ensures { result ≡ departs (meaning system.now) (group_of (groups_of members.now)) reason group lead state }
+    requires low { state < (S.meaning system.now).states }
+    requires within { Within (group_count (groups_of members.now)) (S.meaning system.now).marks reason }
+    ensures { result ≡ departs (S.meaning system.now) (group_of (groups_of members.now)) reason group lead state }
 {
     members.group_of(state) == group && answer(system, members, reason, state) != lead
 }
@@ -70,8 +70,8 @@ fn departing<S: System>(
     group: usize,
     lead: u8,
 ) -> [bool; 128]
-    requires { Within (group_count (groups_of members.now)) (meaning system.now).marks reason }
-    ensures at { (s : ℕ) → s < (meaning system.now).states → flagged result s ≡ departs (meaning system.now) (group_of (groups_of members.now)) reason group lead s }
+    requires { Within (group_count (groups_of members.now)) (S.meaning system.now).marks reason }
+    ensures at { (s : ℕ) → s < (S.meaning system.now).states → flagged result s ≡ departs (S.meaning system.now) (group_of (groups_of members.now)) reason group lead s }
     ensures long { length result ≡ 128 }
 {
     let mut flags = [false; 128];
@@ -83,9 +83,9 @@ fn departing<S: System>(
 
 // Flags the members of the reason's group that do not answer as its lowest-numbered one does.
 fn dissenting<S: System>(system: &S, members: &Membership, reason: Reason) -> [bool; 128]
-    requires fits { length (groups_of members.now) ≡ (meaning system.now).states }
-    requires within { Within (group_count (groups_of members.now)) (meaning system.now).marks reason }
-    ensures told { Told (meaning system.now) reason (groups_of members.now) result }
+    requires fits { length (groups_of members.now) ≡ (S.meaning system.now).states }
+    requires within { Within (group_count (groups_of members.now)) (S.meaning system.now).marks reason }
+    ensures told { Told (S.meaning system.now) reason (groups_of members.now) result }
     ensures long { length result ≡ 128 }
 {
     let group = group_in(reason);
@@ -113,9 +113,9 @@ fn any_flagged(flags: &[bool], states: usize) -> bool
 
 // The groups after a split, or none where all members answer alike.
 fn divided<S: System>(system: &S, members: &Membership, reason: Reason) -> Option<Membership>
-    requires fits { length (groups_of members.now) ≡ (meaning system.now).states }
-    requires within { Within (group_count (groups_of members.now)) (meaning system.now).marks reason }
-    ensures { MatchOption result (MembersDiffer (meaning system.now) reason (groups_of members.now) → ⊥) (λ m. MembersDiffer (meaning system.now) reason (groups_of members.now) × Divided (meaning system.now) reason (groups_of members.now) (groups_of m)) }
+    requires fits { length (groups_of members.now) ≡ (S.meaning system.now).states }
+    requires within { Within (group_count (groups_of members.now)) (S.meaning system.now).marks reason }
+    ensures { MatchOption result (MembersDiffer (S.meaning system.now) reason (groups_of members.now) → ⊥) (λ m. MembersDiffer (S.meaning system.now) reason (groups_of members.now) × Divided (S.meaning system.now) reason (groups_of members.now) (groups_of m)) }
 {
     let flags = dissenting(system, members, reason);
     if !any_flagged(&flags, members.states()) {

@@ -19,8 +19,8 @@ use systems::{Colour, Step, System, Table};
 
 // The strengths of a state into all groups.
 fn strengths<S: System>(system: &S, members: &Membership, from: usize) -> [Step; 128]
-    requires { from < (meaning system.now).states }
-    ensures at { (h : ℕ) → h < 128 → slice_index_or result h Absent ≡ strength (meaning system.now) (group_of (groups_of members.now)) from h }
+    requires { from < (S.meaning system.now).states }
+    ensures at { (h : ℕ) → h < 128 → slice_index_or result h Absent ≡ strength (S.meaning system.now) (group_of (groups_of members.now)) from h }
     ensures long { length result ≡ 128 }
 {
     let mut row = [Step::Absent; 128];
@@ -49,9 +49,9 @@ fn join_strengths(steps: &mut [Step], group: usize, first: bool, strengths: &[St
 
 // Writes the steps between the groups.
 fn write_steps<S: System>(system: &S, members: &Membership, steps: &mut [Step])
-    requires fits { length (groups_of members.now) ≡ (meaning system.now).states }
+    requires fits { length (groups_of members.now) ≡ (S.meaning system.now).states }
     requires long { length steps.old ≡ 16384 }
-    ensures { (g h : ℕ) → g < group_count (groups_of members.now) → h < group_count (groups_of members.now) → step_at steps.new g h ≡ group_step (meaning system.now) (group_of (groups_of members.now)) g h }
+    ensures { (g h : ℕ) → g < group_count (groups_of members.now) → h < group_count (groups_of members.now) → step_at steps.new g h ≡ group_step (S.meaning system.now) (group_of (groups_of members.now)) g h }
 {
     for state in 0..system.states() {
         let group = members.group_of(state);
@@ -64,9 +64,9 @@ fn write_steps<S: System>(system: &S, members: &Membership, steps: &mut [Step])
 // Joins the marks of one more member into the row of its group, and leaves the other rows.
 fn join_marks<S: System>(system: &S, values: &mut [Colour], group: usize, first: bool, state: usize)
     requires long { length values.old ≡ 2048 }
-    requires low { state < (meaning system.now).states }
+    requires low { state < (S.meaning system.now).states }
     requires small { group < 128 }
-    ensures row { (p : ℕ) → p < (meaning system.now).marks → value_at values.new group p ≡ joined_mark first (value_at values.old group p) ((meaning system.now).mark state p) }
+    ensures row { (p : ℕ) → p < (S.meaning system.now).marks → value_at values.new group p ≡ joined_mark first (value_at values.old group p) ((S.meaning system.now).mark state p) }
     ensures others { (g p : ℕ) → p < 16 → (g ≢ group) → value_at values.new g p ≡ value_at values.old g p }
 {
     for mark in 0..system.marks() {
@@ -78,9 +78,9 @@ fn join_marks<S: System>(system: &S, values: &mut [Colour], group: usize, first:
 
 // Writes the marks at the groups.
 fn write_marks<S: System>(system: &S, members: &Membership, values: &mut [Colour])
-    requires fits { length (groups_of members.now) ≡ (meaning system.now).states }
+    requires fits { length (groups_of members.now) ≡ (S.meaning system.now).states }
     requires long { length values.old ≡ 2048 }
-    ensures { (g p : ℕ) → g < group_count (groups_of members.now) → p < (meaning system.now).marks → value_at values.new g p ≡ group_mark (meaning system.now) (group_of (groups_of members.now)) g p }
+    ensures { (g p : ℕ) → g < group_count (groups_of members.now) → p < (S.meaning system.now).marks → value_at values.new g p ≡ group_mark (S.meaning system.now) (group_of (groups_of members.now)) g p }
 {
     for state in 0..system.states() {
         let group = members.group_of(state);
@@ -91,7 +91,7 @@ fn write_marks<S: System>(system: &S, members: &Membership, values: &mut [Colour
 
 // Which groups are starts.
 fn group_starts<S: System>(system: &S, members: &Membership) -> [bool; 128]
-    ensures { (g : ℕ) → g < 128 → start_at result g ≡ group_start (meaning system.now) (group_of (groups_of members.now)) g }
+    ensures { (g : ℕ) → g < 128 → start_at result g ≡ group_start (S.meaning system.now) (group_of (groups_of members.now)) g }
 {
     let mut starts = [false; 128];
     for state in 0..system.states() {
@@ -103,8 +103,8 @@ fn group_starts<S: System>(system: &S, members: &Membership) -> [bool; 128]
 
 // The table of the groups of a system.
 fn tabled<S: System>(system: &S, members: &Membership) -> Table
-    requires { length (groups_of members.now) ≡ (meaning system.now).states }
-    ensures { Agree (by_list (meaning system.now) (groups_of members.now)) (table_model result) }
+    requires { length (groups_of members.now) ≡ (S.meaning system.now).states }
+    ensures { Agree (by_list (S.meaning system.now) (groups_of members.now)) (table_model result) }
 {
     let mut steps = [Step::Absent; 16384];
     let mut values = [Colour::Undecided; 2048];

@@ -9,8 +9,8 @@ use crate::interface::System;
 use crate::kinds::{Colour, Step};
 
 fn count_steps_from<S: System>(system: &S, kind: Step, state: usize) -> usize
-    requires { state < (meaning system.now).states }
-    ensures is { result ≡ count_below (is_step (meaning system.now) kind state) (meaning system.now).states }
+    requires { state < (S.meaning system.now).states }
+    ensures is { result ≡ count_below (is_step (S.meaning system.now) kind state) (S.meaning system.now).states }
     ensures few { result ≤ 128 }
 {
     let mut count = 0;
@@ -23,7 +23,7 @@ fn count_steps_from<S: System>(system: &S, kind: Step, state: usize) -> usize
 }
 
 fn count_steps<S: System>(system: &S, kind: Step) -> usize
-    ensures { result ≡ steps_of (meaning system.now) kind }
+    ensures { result ≡ steps_of (S.meaning system.now) kind }
 {
     let mut count = 0;
     for state in 0..system.states() {
@@ -33,8 +33,8 @@ fn count_steps<S: System>(system: &S, kind: Step) -> usize
 }
 
 fn count_marks_at<S: System>(system: &S, value: Colour, state: usize) -> usize
-    requires { state < (meaning system.now).states }
-    ensures is { result ≡ count_below (is_mark (meaning system.now) value state) (meaning system.now).marks }
+    requires { state < (S.meaning system.now).states }
+    ensures is { result ≡ count_below (is_mark (S.meaning system.now) value state) (S.meaning system.now).marks }
     ensures few { result ≤ 16 }
 {
     let mut count = 0;
@@ -47,7 +47,7 @@ fn count_marks_at<S: System>(system: &S, value: Colour, state: usize) -> usize
 }
 
 fn count_marks<S: System>(system: &S, value: Colour) -> usize
-    ensures { result ≡ marks_of (meaning system.now) value }
+    ensures { result ≡ marks_of (S.meaning system.now) value }
 {
     let mut count = 0;
     for state in 0..system.states() {
@@ -57,7 +57,7 @@ fn count_marks<S: System>(system: &S, value: Colour) -> usize
 }
 
 fn count_starts<S: System>(system: &S) -> usize
-    ensures { result ≡ count_below (meaning system.now).start (meaning system.now).states }
+    ensures { result ≡ count_below (S.meaning system.now).start (S.meaning system.now).states }
 {
     let mut count = 0;
     for state in 0..system.states() {
@@ -79,7 +79,7 @@ fn is_exact(steps_unsure: usize, marks_unknown: usize) -> bool
 impl Census {
     // Counts what a system is made of.
     pub fn of<S: System>(system: &S) -> Census
-        ensures { Counted (meaning system.now) result }
+        ensures { Counted (S.meaning system.now) result }
     {
         let steps_unsure = count_steps(system, Step::Unsure);
         let marks_unknown = count_marks(system, Colour::Undecided);

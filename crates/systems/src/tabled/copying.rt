@@ -14,8 +14,8 @@ use crate::kinds::{Colour, Step};
 // Writes the steps from a state into its row, and leaves the rows before.
 fn copy_row<S: System>(system: &S, steps: &mut [Step], state: usize)
     requires long { length steps.old ≡ 16384 }
-    requires low { state < (meaning system.now).states }
-    ensures row { (t : ℕ) → t < (meaning system.now).states → step_at steps.new state t ≡ (meaning system.now).step state t }
+    requires low { state < (S.meaning system.now).states }
+    ensures row { (t : ℕ) → t < (S.meaning system.now).states → step_at steps.new state t ≡ (S.meaning system.now).step state t }
     ensures before { (k : ℕ) → k < state * 128 → slice_index_or steps.new k Absent ≡ slice_index_or steps.old k Absent }
 {
     for to in 0..system.states() {
@@ -26,7 +26,7 @@ fn copy_row<S: System>(system: &S, steps: &mut [Step], state: usize)
 
 fn copy_steps<S: System>(system: &S, steps: &mut [Step])
     requires long { length steps.old ≡ 16384 }
-    ensures { (s t : ℕ) → s < (meaning system.now).states → t < (meaning system.now).states → step_at steps.new s t ≡ (meaning system.now).step s t }
+    ensures { (s t : ℕ) → s < (S.meaning system.now).states → t < (S.meaning system.now).states → step_at steps.new s t ≡ (S.meaning system.now).step s t }
 {
     for state in 0..system.states() {
         copy_row(system, steps, state);
@@ -36,8 +36,8 @@ fn copy_steps<S: System>(system: &S, steps: &mut [Step])
 // Writes the marks at a state into its row, and leaves the rows before.
 fn copy_marks_at<S: System>(system: &S, values: &mut [Colour], state: usize)
     requires long { length values.old ≡ 2048 }
-    requires low { state < (meaning system.now).states }
-    ensures row { (p : ℕ) → p < (meaning system.now).marks → value_at values.new state p ≡ (meaning system.now).mark state p }
+    requires low { state < (S.meaning system.now).states }
+    ensures row { (p : ℕ) → p < (S.meaning system.now).marks → value_at values.new state p ≡ (S.meaning system.now).mark state p }
     ensures before { (k : ℕ) → k < state * 16 → slice_index_or values.new k Undecided ≡ slice_index_or values.old k Undecided }
 {
     for mark in 0..system.marks() {
@@ -48,7 +48,7 @@ fn copy_marks_at<S: System>(system: &S, values: &mut [Colour], state: usize)
 
 fn copy_marks<S: System>(system: &S, values: &mut [Colour])
     requires long { length values.old ≡ 2048 }
-    ensures { (s p : ℕ) → s < (meaning system.now).states → p < (meaning system.now).marks → value_at values.new s p ≡ (meaning system.now).mark s p }
+    ensures { (s p : ℕ) → s < (S.meaning system.now).states → p < (S.meaning system.now).marks → value_at values.new s p ≡ (S.meaning system.now).mark s p }
 {
     for state in 0..system.states() {
         copy_marks_at(system, values, state);
@@ -57,7 +57,7 @@ fn copy_marks<S: System>(system: &S, values: &mut [Colour])
 
 fn copy_starts<S: System>(system: &S, starts: &mut [bool])
     requires long { length starts.old ≡ 128 }
-    ensures { (s : ℕ) → s < (meaning system.now).states → start_at starts.new s ≡ (meaning system.now).start s }
+    ensures { (s : ℕ) → s < (S.meaning system.now).states → start_at starts.new s ≡ (S.meaning system.now).start s }
 {
     for state in 0..system.states() {
         let start = start_of(system, state);
@@ -68,7 +68,7 @@ fn copy_starts<S: System>(system: &S, starts: &mut [bool])
 impl Table {
     // A copy that answers every question as the system does.
     pub fn copy_of<S: System>(system: &S) -> Table
-        ensures { Agree (meaning system.now) (table_model result) }
+        ensures { Agree (S.meaning system.now) (table_model result) }
     {
         let mut steps = [Step::Absent; 16384];
         let mut values = [Colour::Undecided; 2048];

@@ -5,20 +5,20 @@ use Rattle.systems.proofs.counting.Census.of.Goals as goal
 pub returns : goal.returns
 returns g c =
     let m = g.S.System.meaning c.args.system.now in
-    let unsure = c.count-steps-steps-unsure in
-    let unknown = c.count-marks-marks-unknown in
+    let unsure = c.count_steps-steps_unsure in
+    let unknown = c.count_marks-marks_unknown in
     record {
       states = c.states.ensures;
       marks = c.marks.ensures;
-      starts = c.count-starts.ensures;
-      sure = c.count-steps.ensures;
+      starts = c.count_starts.ensures;
+      sure = c.count_steps.ensures;
       unsure = unsure.ensures;
-      absent = c.count-steps-2.ensures;
-      marks_T = c.count-marks.ensures;
-      marks_F = c.count-marks-2.ensures;
+      absent = c.count_steps-2.ensures;
+      marks_T = c.count_marks.ensures;
+      marks_F = c.count_marks-2.ensures;
       unknown = unknown.ensures;
       exact_true = λ e.
-          let none = c.is-exact.ensures.only e in
+          let none = c.is_exact.ensures.only e in
           exact_from m (sym unsure.ensures ∙ none.0) (sym unknown.ensures ∙ none.1);
-      exact_told = λ x. c.is-exact.ensures.told (unsure.ensures ∙ no_unsure m x) (unknown.ensures ∙ no_unknown m x);
+      exact_told = λ x. c.is_exact.ensures.told (unsure.ensures ∙ no_unsure m x) (unknown.ensures ∙ no_unknown m x);
     }

@@ -11,13 +11,13 @@ loop-to-preserved g c =
     let m = g.S.System.meaning c.args.system.now in
     let test = is_step m c.args.kind c.args.state in
     let i = c.loop-to.to in
-    let asked : c.number.result ≡ step_number (m.step c.args.state i) = c.number.ensures ∙ ap step_number c.step-of.ensures in
+    let asked : c.number.result ≡ step_number (m.step c.args.state i) = c.number.ensures ∙ ap step_number c.step_of.ensures in
     let sought : c.number-in-loop-to.result ≡ step_number c.args.kind = c.number-in-loop-to.ensures in
     elim c.if-number.branch [
       | then-number w ↦
-          subst (Counting test (i + 1)) (sym w.count_is)
+          subst (Counting test (i + 1)) (sym w.count-is)
           (count_hit test i c.loop-to.count (eq-eqb _ _ (sym asked ∙ w.if-number.true ∙ sought)) c.loop-to.invariant)
       | else-number w ↦
-          subst (Counting test (i + 1)) (sym w.count_is)
+          subst (Counting test (i + 1)) (sym w.count-is)
           (count_miss test i c.loop-to.count (ne_eqb _ _ (λ e. w.if-number.false (asked ∙ e ∙ sym sought))) c.loop-to.invariant)
     ]

@@ -12,7 +12,7 @@ loop-mark-preserved g c =
     let few = g.S.System.lawful c.args.system.now in
     let fewer = g.S.System.lawful c.args.system.now in
     let low : c.args.state * 16 + c.loop-mark.mark < length c.loop-mark.values = omega (arith, c.requires.long, c.requires.low) in
-    row_more Undecided 16 M.mark c.args.values.now c.loop-mark.values c.args.state c.loop-mark.mark c.mark-of-value.result low c.mark-of-value.ensures c.loop-mark.invariant
+    row_more Undecided 16 M.mark c.args.values.now c.loop-mark.values c.args.state c.loop-mark.mark c.mark_of-value.result low c.mark_of-value.ensures c.loop-mark.invariant
 
 pub returns : goal.returns
 returns g c = record { row = λ t h. c.loop-mark.invariant.0 t (omega arith); before = c.loop-mark.invariant.1 }

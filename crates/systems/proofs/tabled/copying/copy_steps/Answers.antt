@@ -9,8 +9,8 @@ loop-state-init g c = rows_none Absent 128 _ _ c.args.steps.now
 pub loop-state-preserved : goal.loop-state-preserved
 loop-state-preserved g c =
     let M = g.S.System.meaning c.args.system.now in
-    rows_more Absent 128 M.step M.states (g.S.System.lawful c.args.system.now).states_few c.loop-state.state c.loop-state.steps c.copy-row.new.steps
-    (c.copy-row.ensures.row, c.copy-row.ensures.before) c.loop-state.invariant
+    rows_more Absent 128 M.step M.states (g.S.System.lawful c.args.system.now).states_few c.loop-state.state c.loop-state.steps c.copy_row.new.steps
+    (c.copy_row.ensures.row, c.copy_row.ensures.before) c.loop-state.invariant
 
 pub returns : goal.returns
 returns g c = λ s t h k. c.loop-state.invariant s t (omega arith) k
