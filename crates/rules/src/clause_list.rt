@@ -52,8 +52,8 @@ impl ClauseList {
     // Adds the clause that a prefix has after those of the rule after it; `first` is the number
     // of the clause that led them.
     pub fn put_trailing(&mut self, prefix: Prefix, negated: bool, first: usize)
-        requires le_count { 1 ≤ self.old.count }
-        requires count_bound { self.old.count < 2 ^ 32 }
+        requires one { 1 ≤ self.old.count }
+        requires room { self.old.count < 2 ^ 32 }
         ensures { Adds self.old self.new (trailing prefix negated first (self.old.count - 1)) }
     {
         let last = self.count - 1;

@@ -11,7 +11,7 @@ use crate::syntax::Clause;
 // Reads a rule, negated or not, and adds its clauses; where no rule goes on, answers the place.
 fn read_part(text: &[u8], at: usize, negated: bool, list: &mut ClauseList) -> Result<Part, usize>
     requires at_in_bounds { at ≤ length text.now }
-    requires at_bound { list.old.count + 2 * (length text.now - at) < 2 ^ 32 }
+    requires room { list.old.count + 2 * (length text.now - at) < 2 ^ 32 }
     ensures { ReadsPart text.now at negated list.old list.new result }
 {
     let found = first_piece(text, at)?;
@@ -50,8 +50,8 @@ fn read_part(text: &[u8], at: usize, negated: bool, list: &mut ClauseList) -> Re
 
 // Reads the whole text: the nesting of the rule that it is, or the place where no rule goes on.
 pub fn read_whole(text: &[u8], list: &mut ClauseList) -> Result<usize, usize>
-    requires count_value { list.old.count ≡ 0 }
-    requires text_len_bound { length text.now ≤ 512 }
+    requires empty { list.old.count ≡ 0 }
+    requires short { length text.now ≤ 512 }
     ensures { ReadsWhole text.now list.old list.new result }
 {
     let part = read_part(text, 0, false, list)?;

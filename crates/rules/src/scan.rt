@@ -84,7 +84,7 @@ fn after_letter(text: &[u8], at: usize, quantifier: Quantifier) -> Result<Found,
 pub fn first_piece(text: &[u8], at: usize) -> Result<Found, usize>
     requires { at ≤ length text.now }
     ensures heads { Heads text.now at want result }
-    ensures ok { IfOk result (λ f. at < f.end) }
+    ensures further { IfOk result (λ f. at < f.end) }
 {
     let first = skip_spaces(text, at);
     match start(byte_at(text, first)) {

@@ -13,37 +13,37 @@ pub returns-in-Err : goal.returns-in-Err
 unfolding Answers
 returns-in-Err c = let w = c.in-Err.ensures in no_rule c.in-Err.place (omega arith, omega arith) (no_rule_from c.args.text.now c.in-Err.place w.0 w.1) c.at.ensures
 
-pub returns-then-nesting-gt-MAX-NESTING : goal.returns-then-nesting-gt-MAX-NESTING
+pub returns-then-nesting-gt-MAX_NESTING : goal.returns-then-nesting-gt-MAX_NESTING
 unfolding Answers
-returns-then-nesting-gt-MAX-NESTING c =
+returns-then-nesting-gt-MAX_NESTING c =
     let w = c.in-Ok.ensures in
-    too_deep w.0 ((omega arith, omega arith), sound c.args.text.now w.0 w.1) (omega (arith, w.2)) c.of-then-nesting-gt-MAX-NESTING.ensures
+    too_deep w.0 ((omega arith, omega arith), sound c.args.text.now w.0 w.1) (omega (arith, w.2)) c.of-then-nesting-gt-MAX_NESTING.ensures
 
-pub returns-then-list-gt-MAX-CLAUSES : goal.returns-then-list-gt-MAX-CLAUSES
+pub returns-then-list-gt-MAX_CLAUSES : goal.returns-then-list-gt-MAX_CLAUSES
 unfolding Answers
-returns-then-list-gt-MAX-CLAUSES c =
+returns-then-list-gt-MAX_CLAUSES c =
     let w = c.in-Ok.ensures in
-    let h = held c.empty-list.result c.read-whole.new.list w.0 c.empty-list.ensures w.3 in
-    let n = counted_whole c.read-whole.new.list (normal_form w.0) h in
-    too_many w.0 ((omega arith, omega arith), sound c.args.text.now w.0 w.1) (omega (arith, w.2)) (omega (arith, n)) c.of-then-list-gt-MAX-CLAUSES.ensures
+    let h = held c.empty-list.result c.read_whole.new.list w.0 c.empty-list.ensures w.3 in
+    let n = counted_whole c.read_whole.new.list (normal_form w.0) h in
+    too_many w.0 ((omega arith, omega arith), sound c.args.text.now w.0 w.1) (omega (arith, w.2)) (omega (arith, n)) c.of-then-list-gt-MAX_CLAUSES.ensures
 
-pub invariant-of-result : goal.invariant-of-result
-invariant-of-result c =
+pub invariant_of-result : goal.invariant_of-result
+invariant_of-result c =
     let w = c.in-Ok.ensures in
-    let h = held c.empty-list.result c.read-whole.new.list w.0 c.empty-list.ensures w.3 in
-    (listed_whole c.read-whole.new.list (normal_form w.0) h (spelled_marks (sound c.args.text.now w.0 w.1)) c.if-list-gt-MAX-CLAUSES.false, tt)
+    let h = held c.empty-list.result c.read_whole.new.list w.0 c.empty-list.ensures w.3 in
+    record { listed = listed_whole c.read_whole.new.list (normal_form w.0) h (spelled_marks (sound c.args.text.now w.0 w.1)) c.if-list-gt-MAX_CLAUSES.false }
 
-pub returns-else-list-gt-MAX-CLAUSES : goal.returns-else-list-gt-MAX-CLAUSES
+pub returns-else-list-gt-MAX_CLAUSES : goal.returns-else-list-gt-MAX_CLAUSES
 unfolding Answers
-returns-else-list-gt-MAX-CLAUSES c =
+returns-else-list-gt-MAX_CLAUSES c =
     let w = c.in-Ok.ensures in
-    let h = held c.empty-list.result c.read-whole.new.list w.0 c.empty-list.ensures w.3 in
-    let n = counted_whole c.read-whole.new.list (normal_form w.0) h in
+    let h = held c.empty-list.result c.read_whole.new.list w.0 c.empty-list.ensures w.3 in
+    let n = counted_whole c.read_whole.new.list (normal_form w.0) h in
     record {
       spelled = w.0;
       is_rule = ((omega arith, omega arith), sound c.args.text.now w.0 w.1);
       shallow = omega (arith, w.2);
-      few = omega (arith, n, c.if-list-gt-MAX-CLAUSES.false);
-      holds = taken_whole c.read-whole.new.list (normal_form w.0) h c.if-list-gt-MAX-CLAUSES.false;
+      few = omega (arith, n, c.if-list-gt-MAX_CLAUSES.false);
+      holds = taken_whole c.read_whole.new.list (normal_form w.0) h c.if-list-gt-MAX_CLAUSES.false;
       depth = w.2;
     }

@@ -9,13 +9,13 @@ use Rattle.rules.proofs.scan.operator_between.Goals as goal
 pub returns-in-Some : goal.returns-in-Some
 unfolding joined
 returns-in-Some c =
-    let low = (moves c.args.text.now c.skip-spaces-first.result _ _ (at_sign _ c.args.bracket _ (Tree.constant true) [] c.skip-spaces-first.ensures.2 (c.in-Some.ensures ∙ ap (joining c.args.bracket) c.byte-at.ensures))).0 in (
-      omega (arith, c.skip-spaces-first.ensures.0),
+    let low = (moves c.args.text.now c.skip_spaces-first.result _ _ (at_sign _ c.args.bracket _ (Tree.constant true) [] c.skip_spaces-first.ensures.2 (c.in-Some.ensures ∙ ap (joining c.args.bracket) c.byte_at.ensures))).0 in (
+      omega (arith, c.skip_spaces-first.ensures.0),
       omega arith,
-      λ s k. c.skip-spaces-first.ensures.3 _ (spacious_have s _) ∙ (moves c.args.text.now c.skip-spaces-first.result _ _ (at_sign _ c.args.bracket _ s k c.skip-spaces-first.ensures.2 (c.in-Some.ensures ∙ ap (joining c.args.bracket) c.byte-at.ensures))).1,
+      λ s k. c.skip_spaces-first.ensures.3 _ (spacious_have s _) ∙ (moves c.args.text.now c.skip_spaces-first.result _ _ (at_sign _ c.args.bracket _ s k c.skip_spaces-first.ensures.2 (c.in-Some.ensures ∙ ap (joining c.args.bracket) c.byte_at.ensures))).1,
     )
 
 pub returns-in-None : goal.returns-in-None
 unfolding joined finish ended
 returns-in-None c =
-    (c.skip-spaces-first.ensures.1, λ s k. c.skip-spaces-first.ensures.3 _ (spacious_have s _) ∙ stops c.args.text.now c.skip-spaces-first.result (have s (left c.args.bracket ∷ k)) c.skip-spaces-first.ensures.1 refl (at_sign _ c.args.bracket _ s k c.skip-spaces-first.ensures.2 (c.in-None.ensures ∙ ap (joining c.args.bracket) c.byte-at.ensures)))
+    (c.skip_spaces-first.ensures.1, λ s k. c.skip_spaces-first.ensures.3 _ (spacious_have s _) ∙ stops c.args.text.now c.skip_spaces-first.result (have s (left c.args.bracket ∷ k)) c.skip_spaces-first.ensures.1 refl (at_sign _ c.args.bracket _ s k c.skip_spaces-first.ensures.2 (c.in-None.ensures ∙ ap (joining c.args.bracket) c.byte_at.ensures)))

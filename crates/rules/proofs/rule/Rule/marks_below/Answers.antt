@@ -9,7 +9,7 @@ loop-number-preserved c =
     Decides-like _
     (λ h. below_more _ n h.1 h.0)
     (λ h. (h n (omega arith), λ i l. h i (omega arith)))
-    (Decides-and c.mark-below-all.result c.loop-number.all c.mark-below-all.ensures c.loop-number.invariant)
+    (Decides-and c.mark_below-all.result c.loop-number.all c.mark_below-all.ensures c.loop-number.invariant)
 
 pub returns : goal.returns
 returns c = tested c.args.self.now c.args.marks c.loop-number.number c.loop-number.all (omega arith) c.loop-number.invariant
