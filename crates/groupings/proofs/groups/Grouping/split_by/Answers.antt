@@ -15,7 +15,7 @@ divided-requires g c =
       fits = ap length c.members-members.ensures ∙ (fitted_partition self.members M.states (g.S.System.lawful self.system).states_some).0;
       within =
           subst (λ (k : ℕ). Within k M.marks c.args.reason) c.groups.ensures.is
-          (subst (λ (p : ℕ). Within c.groups.result p c.args.reason) c.marks.ensures (c.if-not-is-within.ensures.0 refl));
+          (subst (λ (p : ℕ). Within c.groups.result p c.args.reason) c.marks.ensures (c.if-not-is_within.ensures.0 refl));
     }
 
 pub returns-in-Some : goal.returns-in-Some
@@ -26,7 +26,7 @@ returns-in-Some g c =
     let done = c.in-Some.ensures in
     let within =
     subst (λ (k : ℕ). Within k M.marks c.args.reason) c.groups.ensures.is
-    (subst (λ (p : ℕ). Within c.groups.result p c.args.reason) c.marks.ensures (c.if-not-is-within.ensures.0 refl)) in
+    (subst (λ (p : ℕ). Within c.groups.result p c.args.reason) c.marks.ensures (c.if-not-is_within.ensures.0 refl)) in
     record {
       below = refl;
       answer =

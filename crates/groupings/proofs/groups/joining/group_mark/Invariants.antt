@@ -9,5 +9,5 @@ abbrev pub invariant-loop-state : goal.invariant-loop-state
 invariant-loop-state g l =
     let M = g.S.System.meaning l.system in
     let group = group_of (groups_of l.members) in
-    (l.all-true ≡ all_below (at_member group l.group (true_at M l.mark)) l.state)
+    (l.all_true ≡ all_below (at_member group l.group (true_at M l.mark)) l.state)
     × (l.all_false ≡ all_below (at_member group l.group (false_at M l.mark)) l.state)

@@ -4,7 +4,7 @@ use Rattle.colours.specs.Groupings.{group_start}
 use Rattle.groupings.specs.Members.{group_of}
 use Rattle.groupings.specs.Memberships.{groups_of}
 use Rattle.groupings.proofs.Joins.{starts_in, start_hit, start_miss}
-use Rattle.groupings.proofs.groups.joining.group_start.Goals.{then-group-of-group, else-group-of-group}
+use Rattle.groupings.proofs.groups.joining.group_start.Goals.{then-group_of-group, else-group_of-group}
 use Rattle.groupings.proofs.groups.joining.group_start.Goals as goal
 
 pub loop-state-preserved : goal.loop-state-preserved
@@ -12,11 +12,11 @@ loop-state-preserved g c =
     let M = g.S.System.meaning c.args.system.now in
     let group = group_of (groups_of c.args.members.now) in
     let s = c.loop-state.state in
-    elim c.if-group-of-group.branch [
-      | then-group-of-group w ↦
-          w.found-is ∙ start_hit M group c.args.group s c.loop-state.found c.loop-state.invariant w.start-of-found.result (sym c.group-of.ensures.is ∙ w.if-group-of-group.true) w.start-of-found.ensures
-      | else-group-of-group w ↦
-          w.found-is ∙ start_miss M group c.args.group s c.loop-state.found c.loop-state.invariant (λ e. w.if-group-of-group.false (c.group-of.ensures.is ∙ e))
+    elim c.if-group_of-group.branch [
+      | then-group_of-group w ↦
+          w.found-is ∙ start_hit M group c.args.group s c.loop-state.found c.loop-state.invariant w.start_of-found.result (sym c.group_of.ensures.is ∙ w.if-group_of-group.true) w.start_of-found.ensures
+      | else-group_of-group w ↦
+          w.found-is ∙ start_miss M group c.args.group s c.loop-state.found c.loop-state.invariant (λ e. w.if-group_of-group.false (c.group_of.ensures.is ∙ e))
     ]
 
 pub returns : goal.returns

@@ -10,14 +10,14 @@ pub lowest-lead-requires : goal.lowest-lead-requires
 lowest-lead-requires g c =
     let M = g.S.System.meaning c.args.system.now in
     let xs = groups_of c.args.members.now in
-    omega (arith, c.group-in-group.ensures, group_within M (group_of xs) c.args.reason (group_count xs) c.requires.within)
+    omega (arith, c.group_in-group.ensures, group_within M (group_of xs) c.args.reason (group_count xs) c.requires.within)
 
 pub returns : goal.returns
 returns g c =
     let M = g.S.System.meaning c.args.system.now in
     let xs = groups_of c.args.members.now in
     let reason = c.args.reason in
-    let is = c.group-in-group.ensures in
+    let is = c.group_in-group.ensures in
     let lead = c.lowest-lead.ensures in
     record {
       told = record {

@@ -4,7 +4,7 @@ use Rattle.systems.specs.Below.{any_below}
 use Rattle.colours.specs.Groupings.{group_start}
 use Rattle.groupings.specs.Members.{group_of}
 use Rattle.groupings.specs.Memberships.{groups_of}
-use Rattle.groupings.proofs.Joins.{starts_in, started-more}
+use Rattle.groupings.proofs.Joins.{starts_in, started_more}
 use Rattle.groupings.proofs.groups.writing.group_starts.Goals as goal
 
 pub loop-state-init : goal.loop-state-init
@@ -15,10 +15,10 @@ loop-state-preserved g c =
     let M = g.S.System.meaning c.args.system.now in
     let m = c.args.members.now in
     let starts = c.loop-state.starts in
-    let h = c.group-of-group.result in
-    let low : h < length starts = omega (arith, c.group-of-group.ensures.below.1) in (
-      length-set starts h (c.start-of.result || get_or starts h false) ∙ c.loop-state.invariant.0,
-      started-more M (group_of (groups_of m)) c.loop-state.state starts h c.start-of.result c.group-of-group.ensures.is low c.start-of.ensures c.loop-state.invariant.1,
+    let h = c.group_of-group.result in
+    let low : h < length starts = omega (arith, c.group_of-group.ensures.below.1) in (
+      length-set starts h (c.start_of.result || get_or starts h false) ∙ c.loop-state.invariant.0,
+      started_more M (group_of (groups_of m)) c.loop-state.state starts h c.start_of.result c.group_of-group.ensures.is low c.start_of.ensures c.loop-state.invariant.1,
     )
 
 pub returns : goal.returns

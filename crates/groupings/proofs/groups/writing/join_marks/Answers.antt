@@ -11,8 +11,8 @@ loop-mark-preserved g c =
     let law = g.S.System.lawful c.args.system.now in
     let at = c.args.group * 16 + c.loop-mark.mark in
     let low : at < length c.loop-mark.values = omega (arith, c.requires.long, c.requires.small, law.marks_few) in
-    changed_more Undecided (c.args.group * 16) (joining_marks c.args.first M c.args.state) c.args.values.now c.loop-mark.mark c.loop-mark.values c.joined-mark-value.result low
-    (c.joined-mark-value.ensures ∙ ap (joined_mark c.args.first (get_or c.loop-mark.values at Undecided)) c.mark-of.ensures) c.loop-mark.invariant
+    changed_more Undecided (c.args.group * 16) (joining_marks c.args.first M c.args.state) c.args.values.now c.loop-mark.mark c.loop-mark.values c.joined_mark-value.result low
+    (c.joined_mark-value.ensures ∙ ap (joined_mark c.args.first (get_or c.loop-mark.values at Undecided)) c.mark_of.ensures) c.loop-mark.invariant
 
 pub returns : goal.returns
 returns g c =

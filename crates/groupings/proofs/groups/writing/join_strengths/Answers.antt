@@ -6,8 +6,8 @@ use Rattle.groupings.proofs.groups.writing.join_strengths.Goals as goal
 pub loop-target-preserved : goal.loop-target-preserved
 loop-target-preserved c =
     let low : c.args.group * 128 + c.loop-target.target < length c.loop-target.steps = omega (arith, c.requires.long, c.requires.low, c.requires.few) in
-    changed_more Absent (c.args.group * 128) (joining_steps c.args.first c.args.strengths.now) c.args.steps.now c.loop-target.target c.loop-target.steps c.joined-step-step.result low
-    c.joined-step-step.ensures c.loop-target.invariant
+    changed_more Absent (c.args.group * 128) (joining_steps c.args.first c.args.strengths.now) c.args.steps.now c.loop-target.target c.loop-target.steps c.joined_step-step.result low
+    c.joined_step-step.ensures c.loop-target.invariant
 
 pub returns : goal.returns
 returns c = record {

@@ -5,7 +5,7 @@ use Rattle.systems.specs.declared.kinds.Step.TheVariants.{Absent}
 use Rattle.colours.specs.Groupings.{surer, surest, strength}
 use Rattle.groupings.specs.Members.{group_of}
 use Rattle.groupings.specs.Memberships.{groups_of}
-use Rattle.groupings.proofs.Joins.{step_into, Gathered, gathered-more}
+use Rattle.groupings.proofs.Joins.{step_into, Gathered, gathered_more}
 use Rattle.groupings.proofs.groups.writing.strengths.Goals as goal
 
 pub loop-to-init : goal.loop-to-init
@@ -18,11 +18,11 @@ loop-to-preserved g c =
     let group = group_of (groups_of m) in
     let row = c.loop-to.row in
     let t = c.loop-to.to in
-    let h = c.group-of-group.result in
-    let low : h < length row = omega (arith, c.group-of-group.ensures.below.1) in
-    let is : c.surer.result ≡ surer (get_or row h Absent) (M.step c.args.from t) = c.surer.ensures ∙ ap (surer (get_or row h Absent)) c.step-of.ensures in (
+    let h = c.group_of-group.result in
+    let low : h < length row = omega (arith, c.group_of-group.ensures.below.1) in
+    let is : c.surer.result ≡ surer (get_or row h Absent) (M.step c.args.from t) = c.surer.ensures ∙ ap (surer (get_or row h Absent)) c.step_of.ensures in (
       length-set row h c.surer.result ∙ c.loop-to.invariant.0,
-      gathered-more M group c.args.from t row h c.surer.result c.group-of-group.ensures.is low is c.loop-to.invariant.1,
+      gathered_more M group c.args.from t row h c.surer.result c.group_of-group.ensures.is low is c.loop-to.invariant.1,
     )
 
 pub returns : goal.returns

@@ -6,7 +6,7 @@ use Rattle.groupings.specs.Joined.{joined_step}
 use Rattle.groupings.specs.Members.{group_of, group_count}
 use Rattle.groupings.specs.Memberships.{groups_of}
 use Rattle.groupings.specs.laws.GroupLaws.{partition}
-use Rattle.groupings.proofs.Rows.{steps, written_none, written-more, steps_written}
+use Rattle.groupings.proofs.Rows.{steps, written_none, written_more, steps_written}
 use Rattle.groupings.proofs.groups.writing.write_steps.Goals as goal
 
 pub loop-state-init : goal.loop-state-init
@@ -19,16 +19,16 @@ loop-state-preserved g c =
     let M = g.S.System.meaning c.args.system.now in
     let xs = groups_of c.args.members.now in
     let before = c.loop-state.steps in
-    let at = c.group-of-group.result in
+    let at = c.group_of-group.result in
     let lead = c.lowest.result in
     let i = c.loop-state.state in
-    written-more steps Absent 128 (group_count xs) (group_of xs) (strength M (group_of xs)) (omega (arith, c.groups.ensures.is, c.groups.ensures.few))
-    i at lead before c.join-strengths.new.steps
-    c.group-of-group.ensures.is c.lowest.ensures.here c.lowest.ensures.first
+    written_more steps Absent 128 (group_count xs) (group_of xs) (strength M (group_of xs)) (omega (arith, c.groups.ensures.is, c.groups.ensures.few))
+    i at lead before c.join_strengths.new.steps
+    c.group_of-group.ensures.is c.lowest.ensures.here c.lowest.ensures.first
     (λ h l.
-    c.join-strengths.ensures.row h (omega (arith, c.groups.ensures.is))
+    c.join_strengths.ensures.row h (omega (arith, c.groups.ensures.is))
     ∙ ap (joined_step (eqb lead i) (step_at before at h)) (c.strengths-strengths.ensures.at h (omega (arith, c.groups.ensures.is, c.groups.ensures.few))))
-    c.join-strengths.ensures.others c.loop-state.invariant
+    c.join_strengths.ensures.others c.loop-state.invariant
 
 pub returns : goal.returns
 returns g c =

@@ -6,10 +6,10 @@ use Rattle.groupings.specs.laws.GroupLaws.{states_are, groups_are, number_at}
 use Rattle.groupings.proofs.Moves.{moved_numbered}
 use Rattle.groupings.proofs.members.Membership.moved.Goals as goal
 
-pub invariant-of-result : goal.invariant-of-result
-invariant-of-result c =
+pub invariant_of-result : goal.invariant_of-result
+invariant_of-result c =
     let table = moved_numbered c.args.self.now c.args.flags.now c.renumbered.result c.renumbered.ensures.at c.requires.some c.requires.kept c.renumbered.ensures.long in
-    (table.0, (table.1, tt))
+    record { sized = table.0; numbered = table.1 }
 
 pub returns : goal.returns
 returns c =

@@ -6,4 +6,4 @@ use Rattle.groupings.proofs.members.listing.all_used.Goals as goal
 pub loop-group-preserved : goal.loop-group-preserved
 loop-group-preserved c =
     let bytes = c.args.bytes.now in
-    all_more (is_used bytes (length bytes)) c.loop-group.group _ c.loop-group.all c.is-used-all.ensures c.loop-group.invariant
+    all_more (is_used bytes (length bytes)) c.loop-group.group _ c.loop-group.all c.is_used-all.ensures c.loop-group.invariant

@@ -9,7 +9,7 @@ pub loop-k-preserved : goal.loop-k-preserved
 loop-k-preserved c =
     let bytes = c.args.bytes.now in
     let more = largest_more bytes c.loop-k.k (omega arith) in
-    let small = c.type-inv.bytes c.loop-k.k in
+    let small = c.type_inv.bytes c.loop-k.k in
     elim c.if-top-byte.branch [
       | then-top-byte w ↦ (omega arith, omega arith)
       | else-top-byte w ↦ (omega arith, omega arith)
