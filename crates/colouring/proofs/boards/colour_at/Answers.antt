@@ -29,8 +29,8 @@ returns c =
     let g = c.args.state in
     let k = c.args.clause in
     let e : g * c.count-2.result + k ≡ place (length cs) g k = ap (λ n. g * n + k) c.count-2.ensures.is in
-    let read : c.from-byte.result ≡ colour_on M cs b g k =
-    c.from-byte.ensures ∙ ap (λ n. colour_from (get_or b n 0)) e
+    let read : c.from_byte.result ≡ colour_on M cs b g k =
+    c.from_byte.ensures ∙ ap (λ n. colour_from (get_or b n 0)) e
     ∙ ap colour_of_byte (sym (slice_get-get_or b (place (length cs) g k) 0 (omega (arith, e, c.if-place-board.false))))
     ∙ sym (colour_inside M cs b g k (omega (arith, c.states.ensures, c.if-state-states.false)) (omega (arith, c.count.ensures.is, c.if-clause-count.false))) in
     record { read = read; colour = λ coloured h l. read ∙ colour_told M cs b g k coloured h l }

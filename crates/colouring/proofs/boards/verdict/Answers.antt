@@ -11,7 +11,7 @@ pub loop-state-init : goal.loop-state-init
 loop-state-init c = meet_none _
 
 pub loop-state-preserved : goal.loop-state-preserved
-loop-state-preserved c = c.meet-all.ensures ∙ ap₂ meet c.loop-state.invariant c.told-at-here.ensures ∙ meet_more c.loop-state.state _
+loop-state-preserved c = c.meet-all.ensures ∙ ap₂ meet c.loop-state.invariant c.told_at-here.ensures ∙ meet_more c.loop-state.state _
 
 pub returns : goal.returns
 returns c =

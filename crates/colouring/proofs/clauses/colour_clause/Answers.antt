@@ -12,17 +12,17 @@ use Rattle.colouring.proofs.clauses.colour_clause.Goals as goal
 two_places : (n m clauses left whole room : ℕ) → n ≡ m → left < whole → whole < clauses → m * clauses ≤ room → 2 * n ≤ room
 two_places n m clauses left whole room e h k l = let i = mul-le-mul_left {m = 2} {n = clauses} m (omega arith) in omega arith
 
-pub look-ahead-requires : goal.look-ahead-requires
-look-ahead-requires c =
-    let p : Columns = record { states = c.states-states.result; clauses = c.args.clauses; left = c.in-Next.part; right = c.in-Next.part; whole = c.args.whole; negated = c.over-all-negated.result } in
+pub look_ahead-requires : goal.look_ahead-requires
+look_ahead-requires c =
+    let p : Columns = record { states = c.states-states.result; clauses = c.args.clauses; left = c.in-Next.part; right = c.in-Next.part; whole = c.args.whole; negated = c.over_all-negated.result } in
     let h = subst (PartsBelow c.args.whole) c.in-Next.is c.requires.parts in
     record {
       fits = fits_from p c.args.board.now (table_model c.args.table.now).states c.states-states.ensures c.requires.board h h c.requires.whole;
       states = c.states-states.ensures;
     }
 
-pub colour-pair-requires : goal.colour-pair-requires
-colour-pair-requires c =
+pub colour_pair-requires : goal.colour_pair-requires
+colour_pair-requires c =
     let p : Columns = record { states = c.states-states.result; clauses = c.args.clauses; left = c.in-Pair.left; right = c.in-Pair.right; whole = c.args.whole; negated = c.turned-negated.result } in
     let n = (table_model c.args.table.now).states in
     let h = subst (PartsBelow c.args.whole) c.in-Pair.is c.requires.parts in
@@ -49,9 +49,9 @@ returns-in-Mark c =
     let M = table_model c.args.table.now in
     let p : Columns = record { states = c.states-states.result; clauses = c.args.clauses; left = 0; right = 0; whole = c.args.whole; negated = c.in-Mark.negated } in
     record {
-      shown = subst (λ z. ShowsClause M c.args.clauses c.args.whole z c.args.board.now c.fill-mark.new.board) (sym c.in-Mark.is)
-          (mark_clause M p c.args.board.now c.fill-mark.new.board c.states-states.ensures c.in-Mark.mark c.in-Mark.negated refl c.fill-mark.ensures.values);
-      only = only_as p c.args.board.now c.fill-mark.new.board M.states c.states-states.ensures c.fill-mark.ensures.only;
+      shown = subst (λ z. ShowsClause M c.args.clauses c.args.whole z c.args.board.now c.fill_mark.new.board) (sym c.in-Mark.is)
+          (mark_clause M p c.args.board.now c.fill_mark.new.board c.states-states.ensures c.in-Mark.mark c.in-Mark.negated refl c.fill_mark.ensures.values);
+      only = only_as p c.args.board.now c.fill_mark.new.board M.states c.states-states.ensures c.fill_mark.ensures.only;
       room = refl;
     }
 
@@ -59,14 +59,14 @@ pub returns-in-Next : goal.returns-in-Next
 returns-in-Next c =
     let M = table_model c.args.table.now in
     let b = c.args.board.now in
-    let b' = c.look-ahead.new.board in
-    let p : Columns = record { states = c.states-states.result; clauses = c.args.clauses; left = c.in-Next.part; right = c.in-Next.part; whole = c.args.whole; negated = c.over-all-negated.result } in
+    let b' = c.look_ahead.new.board in
+    let p : Columns = record { states = c.states-states.result; clauses = c.args.clauses; left = c.in-Next.part; right = c.in-Next.part; whole = c.args.whole; negated = c.over_all-negated.result } in
     let h = subst (PartsBelow c.args.whole) c.in-Next.is c.requires.parts in
     record {
       shown = subst (λ z. ShowsClause M c.args.clauses c.args.whole z b b') (sym c.in-Next.is)
-          (subst (λ z. ShowsClause M c.args.clauses c.args.whole (Next z c.in-Next.part) b b') (by_next c.in-Next.quantifier p.negated c.over-all-negated.ensures)
-          (next_clause M p b b' c.states-states.ensures (fits_from p b M.states c.states-states.ensures c.requires.board h h c.requires.whole) c.look-ahead.ensures));
-      only = only_as p b b' M.states c.states-states.ensures c.look-ahead.ensures.only;
+          (subst (λ z. ShowsClause M c.args.clauses c.args.whole (Next z c.in-Next.part) b b') (by_next c.in-Next.quantifier p.negated c.over_all-negated.ensures)
+          (next_clause M p b b' c.states-states.ensures (fits_from p b M.states c.states-states.ensures c.requires.board h h c.requires.whole) c.look_ahead.ensures));
+      only = only_as p b b' M.states c.states-states.ensures c.look_ahead.ensures.only;
       room = refl;
     }
 
@@ -75,7 +75,7 @@ returns-in-Pair c =
     let M = table_model c.args.table.now in
     let p : Columns = record { states = c.states-states.result; clauses = c.args.clauses; left = c.in-Pair.left; right = c.in-Pair.right; whole = c.args.whole; negated = c.turned-negated.result } in
     record {
-      shown = subst (λ z. ShowsClause M c.args.clauses c.args.whole z c.args.board.now c.colour-pair.new.board) (sym c.in-Pair.is) c.colour-pair.ensures.shown;
-      only = only_as p c.args.board.now c.colour-pair.new.board M.states c.states-states.ensures c.colour-pair.ensures.only;
-      room = c.colour-pair.ensures.room;
+      shown = subst (λ z. ShowsClause M c.args.clauses c.args.whole z c.args.board.now c.colour_pair.new.board) (sym c.in-Pair.is) c.colour_pair.ensures.shown;
+      only = only_as p c.args.board.now c.colour_pair.new.board M.states c.states-states.ensures c.colour_pair.ensures.only;
+      room = c.colour_pair.ensures.room;
     }

@@ -12,11 +12,11 @@ use Rattle.colouring.proofs.clauses.colour_clauses.Goals as goal
 pub loop-number-init : goal.loop-number-init
 loop-number-init c = (coloured_none (table_model c.args.table.now) (clause_list c.args.rule.now) c.args.board.now, refl)
 
-pub clause-of-clause-requires : goal.clause-of-clause-requires
-clause-of-clause-requires c = omega (arith, c.count-clauses.ensures.is)
+pub clause_of-clause-requires : goal.clause_of-clause-requires
+clause_of-clause-requires c = omega (arith, c.count-clauses.ensures.is)
 
-pub colour-clause-requires : goal.colour-clause-requires
-colour-clause-requires c =
+pub colour_clause-requires : goal.colour_clause-requires
+colour_clause-requires c =
     let cs = clause_list c.args.rule.now in
     let n = (table_model c.args.table.now).states in
     let e = c.count-clauses.ensures.is in
@@ -24,7 +24,7 @@ colour-clause-requires c =
     record {
       board = subst (λ z. n * z ≤ length c.loop-number.board) (sym e) (omega (arith, c.requires.board));
       whole = omega arith;
-      parts = subst (PartsBelow c.loop-number.number) (sym c.clause-of-clause.ensures) ((every_rule c.args.rule.now).founded c.loop-number.number low);
+      parts = subst (PartsBelow c.loop-number.number) (sym c.clause_of-clause.ensures) ((every_rule c.args.rule.now).founded c.loop-number.number low);
       place = subst (λ z. n * z ≤ room c.loop-number.queue) (sym e) (omega (arith, c.requires.place, c.loop-number.invariant.1));
     }
 
@@ -34,12 +34,12 @@ loop-number-preserved c =
     let cs = clause_list c.args.rule.now in
     let i = c.loop-number.number in
     let b = c.loop-number.board in
-    let b' = c.colour-clause.new.board in
+    let b' = c.colour_clause.new.board in
     let e = c.count-clauses.ensures.is in (
       coloured_more M cs c.args.board.now (every_rule c.args.rule.now).founded b b' i (omega (arith, e))
-          (subst₂ (λ n z. ShowsClause M n i z b b') e c.clause-of-clause.ensures c.colour-clause.ensures.shown)
-          (subst (λ n. OnlyAt M.states n i b b') e c.colour-clause.ensures.only) c.loop-number.invariant.0,
-      c.colour-clause.ensures.room ∙ c.loop-number.invariant.1,
+          (subst₂ (λ n z. ShowsClause M n i z b b') e c.clause_of-clause.ensures c.colour_clause.ensures.shown)
+          (subst (λ n. OnlyAt M.states n i b b') e c.colour_clause.ensures.only) c.loop-number.invariant.0,
+      c.colour_clause.ensures.room ∙ c.loop-number.invariant.1,
     )
 
 pub returns : goal.returns

@@ -22,6 +22,6 @@ returns c =
     let M = table_model c.args.table.now in
     let cs = clause_list c.args.rule.now in
     let e : c.states.result * c.count.result ≡ positions M cs = ap₂ ◌*◌ c.states.ensures c.count.ensures.is in
-    done M cs c.args.board.now c.args.queue.now c.colour-clauses.new.board c.colour-clauses.new.queue
+    done M cs c.args.board.now c.args.queue.now c.colour_clauses.new.board c.colour_clauses.new.queue
     (subst (λ n. n ≤ length c.args.board.now) e c.if-board-positions.false) (subst₂ (λ n k. n ≤ k) e c.capacity.ensures c.if-capacity-positions.false)
-    c.colour-clauses.ensures.becomes c.colour-clauses.ensures.room
+    c.colour_clauses.ensures.becomes c.colour_clauses.ensures.room

@@ -18,8 +18,8 @@ read-left-requires c = cell_low c.args.columns c.args.board.now c.requires.fits 
 pub write-requires : goal.write-requires
 write-requires c = cell_low c.args.columns c.args.board.now c.requires.fits _ _ c.requires.fits.order.whole c.requires.low
 
-pub push-sure-requires : goal.push-sure-requires
-push-sure-requires c =
+pub push_sure-requires : goal.push_sure-requires
+push_sure-requires c =
     let p = c.args.columns in
     let b = c.args.board.now in
     let no_r : ¬ Within (column p b p.whole c.args.s) (column p b p.left c.args.s) =
@@ -52,6 +52,6 @@ returns-else-u-columns c =
     record {
       looked = looked_fell p M b (held c.args.queue.now) n.witness n.tried c.args.s c.requires.fits c.requires.low c.read-here.result c.read-here.ensures no_r
           (λ u a. none u (omega (arith, c.requires.states, c.if-u-columns.false)))
-          c.write.new.board (held c.push-sure.new.queue) _ _ (c.write.ensures ∙ ap (λ v. set b (cell p p.whole c.args.s) (colour_number (flipped p.negated v))) c.lower.ensures) (c.push-sure.ensures.0 ∙ ap (λ x. held c.args.queue.now ++ x ∷ []) c.position.ensures) refl refl;
-      room = c.push-sure.ensures.1;
+          c.write.new.board (held c.push_sure.new.queue) _ _ (c.write.ensures ∙ ap (λ v. set b (cell p p.whole c.args.s) (colour_number (flipped p.negated v))) c.lower.ensures) (c.push_sure.ensures.0 ∙ ap (λ x. held c.args.queue.now ++ x ∷ []) c.position.ensures) refl refl;
+      room = c.push_sure.ensures.1;
     }

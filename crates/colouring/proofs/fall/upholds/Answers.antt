@@ -28,7 +28,7 @@ returns-then-not-within c =
     let p = c.args.columns in
     let x = column p c.args.board.now p.whole in
     let step = rated ((table_model c.args.table.now).step c.args.s c.args.u) in
-    let rating : c.rated_step.result ≡ step = c.rated_step.ensures ∙ ap rated c.step-of.ensures in
+    let rating : c.rated-step.result ≡ step = c.rated-step.ensures ∙ ap rated c.step_of.ensures in
     record {
       yes = λ e. absurd (false_true e);
       no = λ e h. c.within.ensures.no c.if-not-within.true (subst₂ Within (sym c.requires.here) (sym rating) (within_left (x c.args.s) step (x c.args.u) h));
@@ -41,7 +41,7 @@ returns c =
     let s = c.args.s in
     let u = c.args.u in
     let step = rated ((table_model c.args.table.now).step s u) in
-    let rating : c.rated_step.result ≡ step = c.rated_step.ensures ∙ ap rated c.step-of.ensures in
+    let rating : c.rated-step.result ≡ step = c.rated-step.ensures ∙ ap rated c.step_of.ensures in
     record {
       yes = λ e. within_both (x s) step (x u) (subst₂ Within c.requires.here rating (c.within.ensures.yes c.if-not-within.false))
           (subst₂ Within c.requires.here c.read-there.ensures (c.within-2.ensures.yes e));

@@ -24,7 +24,7 @@ read-there-requires c = cell_low c.args.columns c.args.board.now c.requires.fits
 pub loop-t-preserved : goal.loop-t-preserved
 loop-t-preserved c =
     c.join-sum.ensures
-    ∙ ap₂ join c.loop-t.invariant (c.meet-across.ensures ∙ ap₂ meet (c.rated_step.ensures ∙ ap rated c.step-of.ensures) c.read-there.ensures)
+    ∙ ap₂ join c.loop-t.invariant (c.meet-across.ensures ∙ ap₂ meet (c.rated-step.ensures ∙ ap rated c.step_of.ensures) c.read-there.ensures)
     ∙ join_more c.loop-t.t _
 
 pub returns : goal.returns

@@ -15,8 +15,8 @@ loop-s-preserved c =
     let p = c.args.columns in
     let b₀ = c.args.board.now in (
       subst (OnlyColumn p b₀) (sym c.write.ensures) (only_more p b₀ c.loop-s.board c.loop-s.s _ (omega arith) c.loop-s.invariant.0),
-      λ known. filled_more p b₀ c.loop-s.board c.write.new.board (marked (table_model c.args.table.now) c.args.mark) c.loop-s.s c.mark-of-v.result
-          (lies_same p b₀ c.loop-s.board (omega arith) c.requires.lies) (omega arith) (c.mark-of-v.ensures known) c.write.ensures (c.loop-s.invariant.1 known),
+      λ known. filled_more p b₀ c.loop-s.board c.write.new.board (marked (table_model c.args.table.now) c.args.mark) c.loop-s.s c.mark_of-v.result
+          (lies_same p b₀ c.loop-s.board (omega arith) c.requires.lies) (omega arith) (c.mark_of-v.ensures known) c.write.ensures (c.loop-s.invariant.1 known),
     )
 
 pub returns : goal.returns

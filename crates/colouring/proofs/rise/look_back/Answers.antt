@@ -7,8 +7,8 @@ use Rattle.colouring.proofs.Placing.{fits_same, part_same}
 use Rattle.colouring.proofs.Rises.{rising_step, rising_done}
 use Rattle.colouring.proofs.rise.look_back.Goals as goal
 
-pub pass-on-requires : goal.pass-on-requires
-pass-on-requires c = record {
+pub pass_on-requires : goal.pass_on-requires
+pass_on-requires c = record {
   fits = fits_same c.args.columns c.args.board.now c.loop-s.board (omega arith) c.requires.fits;
   states = c.requires.states;
   low = (omega arith, c.requires.low);
@@ -25,11 +25,11 @@ loop-s-preserved c =
     let fit = c.requires.fits in (
       λ b₀ i₀.
           let i = c.loop-s.invariant.0 b₀ i₀ in
-          rising_step p M b₀ fit.order c.requires.states b c.pass-on.new.board (held c.loop-s.queue) (held c.pass-on.new.queue) s _
-          (omega (arith, c.requires.states)) c.pass-on.ensures.raised t (omega (arith, c.requires.states, c.requires.low))
+          rising_step p M b₀ fit.order c.requires.states b c.pass_on.new.board (held c.loop-s.queue) (held c.pass_on.new.queue) s _
+          (omega (arith, c.requires.states)) c.pass_on.ensures.raised t (omega (arith, c.requires.states, c.requires.low))
           (ap (λ z. meet z (meet (rated (M.step s t)) (column p b p.whole t))) (part_same p b₀ b fit.order.whole i.only p.left s fit.order.left)) i,
-      omega (arith, c.pass-on.ensures.raised.sum, c.loop-s.invariant.1),
-      c.pass-on.ensures.room ∙ c.loop-s.invariant.2,
+      omega (arith, c.pass_on.ensures.raised.sum, c.loop-s.invariant.1),
+      c.pass_on.ensures.room ∙ c.loop-s.invariant.2,
     )
 
 pub returns : goal.returns

@@ -27,7 +27,7 @@ returns-then-same c =
     let h = held c.args.queue.now in
     let s = c.args.s in
     let t = c.args.t in
-    let none : F ≡ rated (M.step s t) = sym (c.same.ensures.yes c.if-same.true) ∙ c.rated_step.ensures ∙ ap rated c.step-of.ensures in
+    let none : F ≡ rated (M.step s t) = sym (c.same.ensures.yes c.if-same.true) ∙ c.rated-step.ensures ∙ ap rated c.step_of.ensures in
     let x = column p b p.whole in
     let r = column p b p.left in
     record {
@@ -43,7 +43,7 @@ returns c =
     let M = table_model c.args.table.now in
     let gain : c.meet-gain.result ≡ passed M (column p b p.left) (column p b p.whole) c.args.s c.args.t =
     c.meet-gain.ensures ∙ ap₂ meet c.read-here.ensures
-    (c.meet-across.ensures ∙ ap₂ meet (c.rated_step.ensures ∙ ap rated c.step-of.ensures) c.read-there.ensures) in
+    (c.meet-across.ensures ∙ ap₂ meet (c.rated-step.ensures ∙ ap rated c.step_of.ensures) c.read-there.ensures) in
     record {
       raised = subst (λ z. Raised p b c.raise.new.board (held c.args.queue.now) (held c.raise.new.queue) c.args.s z) gain c.raise.ensures.raised;
       room = c.raise.ensures.room;

@@ -12,8 +12,8 @@ read-old-requires c = cell_low c.args.columns c.args.board.now c.requires.fits _
 pub write-requires : goal.write-requires
 write-requires c = cell_low c.args.columns c.args.board.now c.requires.fits _ _ c.requires.fits.order.whole c.requires.low
 
-pub push-sure-requires : goal.push-sure-requires
-push-sure-requires c =
+pub push_sure-requires : goal.push_sure-requires
+push_sure-requires c =
     let p = c.args.columns in
     let b = c.args.board.now in
     let is : c.join-new.result ≡ join (column p b p.whole c.args.s) c.args.v =
@@ -31,6 +31,6 @@ returns-then-not-same c =
     let differs : c.join-new.result ≢ column p b p.whole c.args.s = λ e. c.same.ensures.no c.if-not-same.true (e ∙ sym c.read-old.ensures) in
     record {
       raised = raised_more p b (held c.args.queue.now) c.args.s c.args.v c.join-new.result c.requires.fits c.requires.low is differs
-          c.write.new.board (held c.push-sure.new.queue) c.write.ensures (c.push-sure.ensures.0 ∙ ap (λ x. held c.args.queue.now ++ x ∷ []) c.position.ensures);
-      room = c.push-sure.ensures.1;
+          c.write.new.board (held c.push_sure.new.queue) c.write.ensures (c.push_sure.ensures.0 ∙ ap (λ x. held c.args.queue.now ++ x ∷ []) c.position.ensures);
+      room = c.push_sure.ensures.1;
     }
