@@ -25,11 +25,11 @@ returns-in-Some c =
     record {
       small = λ n. absurd (n fits);
       decided = λ none. absurd (false≢true (sym (none g low.0) ∙ low.1));
-      found = λ f coloured h s u. cause_made M cs board (omega (arith, C-is, c.count-clauses.ensures.some)) coloured g low c.chain-from.new.chain
-          c.chain-from.result
-          (subst (λ x. ChainFound M cs board (record { group = g; clause = x - 1 }) c.chain-from.new.chain c.chain-from.result) C-is
-          c.chain-from.ensures.found);
-      room_kept = c.chain-from.ensures.room;
+      found = λ f coloured h s u. cause_made M cs board (omega (arith, C-is, c.count-clauses.ensures.some)) coloured g low c.chain_from.new.chain
+          c.chain_from.result
+          (subst (λ x. ChainFound M cs board (record { group = g; clause = x - 1 }) c.chain_from.new.chain c.chain_from.result) C-is
+          c.chain_from.ensures.found);
+      room_kept = c.chain_from.ensures.room;
     }
 
 pub returns-in-None : goal.returns-in-None

@@ -4,8 +4,8 @@ use Rattle.engine.specs.search.Looks.{Low, stepped, across, looks_of}
 use Rattle.engine.proofs.Looks.{row_fits, place_fits, look_here, look_across}
 use Rattle.engine.proofs.cause.looking.look.Goals as goal
 
-pub look-here-requires : goal.look-here-requires
-look-here-requires c =
+pub look_here-requires : goal.look_here-requires
+look_here-requires c =
     let a = c.requires.aimed in
     record {
       row = row_fits (table_model c.args.table.now).states c.args.clauses c.args.board.now c.args.at.group a.wide a.group_low;
@@ -19,8 +19,8 @@ returns-then-k-lt2 c =
     ∙ sym (look_here (table_model c.args.table.now) c.args.clauses c.args.board.now c.args.at c.args.clause c.args.sought
     c.args.k c.if-k-lt2.true)
 
-pub look-across-requires : goal.look-across-requires
-look-across-requires c =
+pub look_across-requires : goal.look_across-requires
+look_across-requires c =
     let M = table_model c.args.table.now in
     let low = ap (looks_of M) c.in-Some.is in
     place_fits M.states c.args.clauses c.args.board.now (c.args.k - 2) c.in-Some.number c.requires.aimed.wide
@@ -34,6 +34,6 @@ returns c =
     let board = c.args.board.now in
     let p = c.args.at in
     c.look_across.ensures
-    ∙ ap (stepped C board p c.args.clause c.in-Some.number (c.args.k - 2)) c.step-of.ensures
+    ∙ ap (stepped C board p c.args.clause c.in-Some.number (c.args.k - 2)) c.step_of.ensures
     ∙ sym (ap (λ o. across M C board p c.args.clause o (c.args.k - 2)) c.in-Some.is)
     ∙ sym (look_across M C board p c.args.clause c.args.sought c.args.k c.if-k-lt2.false)

@@ -55,9 +55,9 @@ returns-in-Some-spread c =
 pub loop-link-preserved : goal.loop-link-preserved
 loop-link-preserved c =
     let m = graph (table_model c.args.table.now) (clause_list c.args.rule.now) c.args.board.now in (
-      (λ start s. c.in-default-spread.ensures.spread start (popped m start c.loop-link.chain c.in-Some.link (held c.pop.new.self)
+      (λ start s. c.in_default-spread.ensures.spread start (popped m start c.loop-link.chain c.in-Some.link (held c.pop.new.self)
           (subst (Searching m start c.loop-link.chain) c.in-Some.ensures.0 (c.loop-link.invariant.0 start s)))),
-      c.in-default-spread.ensures.room ∙ c.in-Some.ensures.1 ∙ c.loop-link.invariant.1,
+      c.in_default-spread.ensures.room ∙ c.in-Some.ensures.1 ∙ c.loop-link.invariant.1,
     )
 
 pub returns : goal.returns
@@ -69,6 +69,6 @@ returns c =
     let begun = first_seen m start table c.requires.low wide c.clear-2.ensures c.count.result c.count.ensures.is
     (held c.clear.new.self) c.see.new.chain (held c.see.new.links) c.clear.ensures.empty c.see.ensures.saw in
     record {
-      searched = subst (Searching m start c.loop-link.chain) c.in-default.ensures.0 (c.loop-link.invariant.0 start begun);
-      room = ap room c.in-default.ensures.1 ∙ c.loop-link.invariant.1 ∙ c.see.ensures.room ∙ c.clear.ensures.room;
+      searched = subst (Searching m start c.loop-link.chain) c.in_default.ensures.0 (c.loop-link.invariant.0 start begun);
+      room = ap room c.in_default.ensures.1 ∙ c.loop-link.invariant.1 ∙ c.see.ensures.room ∙ c.clear.ensures.room;
     }

@@ -14,8 +14,8 @@ use Rattle.engine.proofs.Spreads.{place_in_table, saw_space, saw_sum, saw_on}
 use Rattle.engine.proofs.cause.searching.spread.Goals as goal
 use Rattle.engine.proofs.cause.searching.spread.Goals.{in-Next, in-Nothing}
 
-pub sought-across-sought-requires : goal.sought-across-sought-requires
-sought-across-sought-requires c =
+pub sought_across-sought-requires : goal.sought_across-sought-requires
+sought_across-sought-requires c =
     let M = table_model c.args.table.now in
     let cs = clause_list c.args.rule.now in
     let C-is = c.count-clauses.ensures.is in
@@ -23,15 +23,15 @@ sought-across-sought-requires c =
       row = row_fits M.states c.count-clauses.result c.args.board.now c.args.from.group
           (subst (λ x. M.states * x ≤ length c.args.board.now) (sym C-is) c.requires.wide) c.requires.low.0;
       low = omega (arith, C-is, c.requires.low.1);
-      parts = subst (PartsBelow c.args.from.clause) (sym c.clause-of-clause.ensures) ((every_rule c.args.rule.now).founded c.args.from.clause c.requires.low.1);
+      parts = subst (PartsBelow c.args.from.clause) (sym c.clause_of-clause.ensures) ((every_rule c.args.rule.now).founded c.args.from.clause c.requires.low.1);
     }
 
 pub look-requires : goal.look-requires
 look-requires c =
     record {
       aimed = aimed (table_model c.args.table.now) (clause_list c.args.rule.now) c.args.board.now c.args.from
-          c.count-clauses.result c.clause-of-clause.result c.sought-across-sought.result c.count-clauses.ensures.is
-          c.clause-of-clause.ensures c.sought-across-sought.ensures (every_rule c.args.rule.now).founded c.requires.wide c.requires.low;
+          c.count-clauses.result c.clause_of-clause.result c.sought_across-sought.result c.count-clauses.ensures.is
+          c.clause_of-clause.ensures c.sought_across-sought.ensures (every_rule c.args.rule.now).founded c.requires.wide c.requires.low;
       low = omega (arith, c.loop-k-test.true, c.looks-count.ensures);
     }
 
@@ -41,10 +41,10 @@ returns-in-End c =
     let cs = clause_list c.args.rule.now in
     let board = c.args.board.now in
     let from = c.args.from in
-    let same = look_same M cs board from c.count-clauses.result c.clause-of-clause.result c.sought-across-sought.result
-    c.count-clauses.ensures.is c.clause-of-clause.ensures c.sought-across-sought.ensures c.loop-k.k in
-    let all = looks_same M cs board from c.count-clauses.result c.clause-of-clause.result c.sought-across-sought.result
-    c.count-clauses.ensures.is c.clause-of-clause.ensures c.sought-across-sought.ensures in
+    let same = look_same M cs board from c.count-clauses.result c.clause_of-clause.result c.sought_across-sought.result
+    c.count-clauses.ensures.is c.clause_of-clause.ensures c.sought_across-sought.ensures c.loop-k.k in
+    let all = looks_same M cs board from c.count-clauses.result c.clause_of-clause.result c.sought_across-sought.result
+    c.count-clauses.ensures.is c.clause_of-clause.ensures c.sought_across-sought.ensures in
     record {
       spread = λ start s. spread_end (graph M cs board) start from c.loop-k.k c.loop-k.chain (held c.loop-k.links) c.in-End.reason
           (c.loop-k.invariant.0 start s) (omega (arith, c.loop-k-test.true, c.looks-count.ensures, all))
@@ -63,8 +63,8 @@ see-requires c =
     let waiting = held c.loop-k.links in
     let n = c.in-Next.at in
     let C-is = c.count-clauses.ensures.is in
-    let low = next_inside M cs c.args.board.now from c.count-clauses.result c.clause-of-clause.result c.sought-across-sought.result
-    C-is c.clause-of-clause.ensures c.sought-across-sought.ensures (every_rule c.args.rule.now).founded c.requires.wide c.requires.low
+    let low = next_inside M cs c.args.board.now from c.count-clauses.result c.clause_of-clause.result c.sought_across-sought.result
+    C-is c.clause_of-clause.ensures c.sought_across-sought.ensures (every_rule c.args.rule.now).founded c.requires.wide c.requires.low
     c.loop-k.k n (omega (arith, c.loop-k-test.true, c.looks-count.ensures)) (sym c.in-Next.ensures) in
     let wide : M.states * length cs ≤ length table = omega (arith, c.requires.roomy.wide, c.loop-k.auto.chain) in
     record {
@@ -84,18 +84,18 @@ loop-k-preserved c =
     let t = c.loop-k.chain in
     let x = c.loop-k.links in
     let C-is = c.count-clauses.ensures.is in
-    let same = look_same M cs board from c.count-clauses.result c.clause-of-clause.result c.sought-across-sought.result
-    C-is c.clause-of-clause.ensures c.sought-across-sought.ensures k in
-    let all = looks_same M cs board from c.count-clauses.result c.clause-of-clause.result c.sought-across-sought.result
-    C-is c.clause-of-clause.ensures c.sought-across-sought.ensures in
+    let same = look_same M cs board from c.count-clauses.result c.clause_of-clause.result c.sought_across-sought.result
+    C-is c.clause_of-clause.ensures c.sought_across-sought.ensures k in
+    let all = looks_same M cs board from c.count-clauses.result c.clause_of-clause.result c.sought_across-sought.result
+    C-is c.clause_of-clause.ensures c.sought_across-sought.ensures in
     let Kept : List (Option Position) → Ring Link → Type 0 = λ t x.
     Taken m from (k + 1) c.args.chain.now (held c.args.links.now) t (held x)
     × SameSum m c.args.chain.now (held c.args.links.now) t (held x) × (room x ≡ room c.args.links.now) in
     elim c.match-look.branch [
       | in-Next w ↦
           (let n = w.in-Next.at in
-          let low = next_inside M cs board from c.count-clauses.result c.clause-of-clause.result c.sought-across-sought.result
-          C-is c.clause-of-clause.ensures c.sought-across-sought.ensures (every_rule c.args.rule.now).founded c.requires.wide c.requires.low
+          let low = next_inside M cs board from c.count-clauses.result c.clause_of-clause.result c.sought_across-sought.result
+          C-is c.clause_of-clause.ensures c.sought_across-sought.ensures (every_rule c.args.rule.now).founded c.requires.wide c.requires.low
           k n (omega (arith, c.loop-k-test.true, c.looks-count.ensures)) (sym w.in-Next.ensures) in
           let wide : M.states * length cs ≤ length t = omega (arith, c.requires.roomy.wide, c.loop-k.auto.chain) in
           let t' = w.see.new.chain in
@@ -121,8 +121,8 @@ returns c =
     let cs = clause_list c.args.rule.now in
     let board = c.args.board.now in
     let from = c.args.from in
-    let all = looks_same M cs board from c.count-clauses.result c.clause-of-clause.result c.sought-across-sought.result
-    c.count-clauses.ensures.is c.clause-of-clause.ensures c.sought-across-sought.ensures in
+    let all = looks_same M cs board from c.count-clauses.result c.clause_of-clause.result c.sought_across-sought.result
+    c.count-clauses.ensures.is c.clause_of-clause.ensures c.sought_across-sought.ensures in
     record {
       spread = λ start s. spread_done (graph M cs board) start from c.loop-k.k c.loop-k.chain (held c.loop-k.links)
           (c.loop-k.invariant.0 start s) (omega (arith, c.loop-k-test.false, c.looks-count.ensures, all));
