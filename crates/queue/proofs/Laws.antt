@@ -1,5 +1,5 @@
 -- What callers may use of a queue, whatever it is made of.
-use Rattle.std.proofs.Common.{◌≡◌, ◌+◌, ◌≤◌, List, [], ◌∷◌, ◌++◌, length, ap, ◌∙◌, arith}
+use Rattle.std.proofs.Common.{◌≡◌, ◌+◌, ◌≤◌, [], ◌∷◌, ◌++◌, length, ap, ◌∙◌, arith}
 use Rattle.std.proofs.lemmas.List.{length_push}
 use Rattle.queue.specs.declared.ring.Ring.{Ring}
 use Rattle.queue.specs.Held.{held, room}

@@ -1,4 +1,4 @@
-use Rattle.std.proofs.Common.{◌≡◌, ℕ, ◌+◌, ◌-◌, ◌<◌, ◌≤◌, List, [], ◌∷◌, ◌++◌, length, get_or, sym, refl, ap, ◌∙◌, arith}
+use Rattle.std.proofs.Common.{◌≡◌, ◌-◌, ◌∷◌, get_or, refl, ap, ◌∙◌, arith}
 use Rattle.queue.specs.Held.{round}
 use Rattle.queue.proofs.Rounds.{round_none, round_pop_near, round_pop_far}
 use Rattle.queue.proofs.ring.Ring.pop.Goals as goal

@@ -1,4 +1,4 @@
-use Rattle.std.proofs.Common.{◌≡◌, ℕ, ◌+◌, ◌-◌, ◌<◌, ◌≤◌, List, [], ◌∷◌, ◌++◌, length, set, sym, refl, ap, ◌∙◌, arith, length-set}
+use Rattle.std.proofs.Common.{◌≡◌, ◌+◌, [], ◌∷◌, ◌++◌, length, set, refl, ◌∙◌, arith, length-set}
 use Rattle.queue.specs.Held.{round}
 use Rattle.queue.proofs.Rounds.{round_length, round_push_near, round_push_far}
 use Rattle.queue.proofs.ring.Ring.push.Goals as goal
