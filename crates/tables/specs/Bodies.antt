@@ -1,7 +1,6 @@
 -- What is kept of the bodies of a file that was accepted.
 use Rattle.std.specs.Prelude.{◌≡◌, ℕ, ◌+◌, ◌*◌, ◌≤◌, true, List, length}
 use Rattle.systems.specs.Below.{all_below, any_below}
-use Rattle.systems.specs.Tabled.{InRange}
 use Rattle.tables.specs.Conditions.{listed, goes, is_start}
 use Rattle.tables.specs.Files.{states_of, marks_of, offset}
 use Rattle.tables.specs.declared.layout.Layout.{Layout}

@@ -1,5 +1,5 @@
 -- The conditions that a table file meets, in the order in which they are put, and the first that fails.
-use Rattle.std.specs.Prelude.{ℕ, ◌+◌, ◌*◌, Bool, true, false, cond, ◌&&◌, ◌||◌, List, length, Some, None, Option, ◌==◌, nat_le, nat_lt}
+use Rattle.std.specs.Prelude.{ℕ, ◌+◌, ◌*◌, Bool, cond, ◌&&◌, ◌||◌, List, length, Some, None, Option, ◌==◌, nat_le, nat_lt}
 use Rattle.systems.specs.Below.{all_below, any_below}
 use Rattle.systems.specs.Faults.{without_place}
 use Rattle.systems.specs.declared.refusals.Fault.{Fault}

@@ -1,6 +1,6 @@
 -- What the bytes of a table file say. Byte 0 is N and byte 1 is P; then come three entries of the contents, for the
 -- steps (0), the marks (1) and the starts (2), each an offset and a length of two bytes, the high one first.
-use Rattle.std.specs.Prelude.{ℕ, ◌+◌, ◌*◌, Bool, cond, List, Some, None, Option, ◌==◌, slice_index}
+use Rattle.std.specs.Prelude.{ℕ, ◌+◌, ◌*◌, List, Some, None, Option, ◌==◌, slice_index}
 use Rattle.systems.specs.Model.{Model}
 use Rattle.systems.specs.Numbers.{step_from, colour_from}
 use Rattle.systems.specs.declared.kinds.Step.{Step}

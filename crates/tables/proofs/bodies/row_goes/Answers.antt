@@ -4,10 +4,10 @@ use Rattle.tables.specs.Conditions.{filled}
 use Rattle.systems.proofs.Loops.{any_more}
 use Rattle.tables.proofs.bodies.row_goes.Goals as goal
 
-pub byte-at-requires : goal.byte-at-requires
-byte-at-requires c = omega (arith, mul-add-lt c.args.row c.args.states c.loop-column.column c.args.states (omega arith) (omega arith))
+pub byte_at-requires : goal.byte_at-requires
+byte_at-requires c = omega (arith, mul-add-lt c.args.row c.args.states c.loop-column.column c.args.states (omega arith) (omega arith))
 
 pub loop-column-preserved : goal.loop-column-preserved
 loop-column-preserved c =
     any_more (filled c.args.bytes.now c.args.at c.args.states c.args.row) c.loop-column.column _ c.loop-column.found
-    (ap (λ (x : ℕ). ltb 0 x) c.byte-at.ensures) c.loop-column.invariant
+    (ap (λ (x : ℕ). ltb 0 x) c.byte_at.ensures) c.loop-column.invariant

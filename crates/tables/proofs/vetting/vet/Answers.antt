@@ -5,5 +5,5 @@ use Rattle.tables.proofs.vetting.vet.Goals as goal
 
 pub returns : goal.returns
 returns c =
-    let read = c.in-ok-table.ensures in
-    (read.0, counted_alike (file_model c.args.bytes.now) (table_model c.in-ok-table.table) read.1 c.of.result c.of.ensures)
+    let read = c.in_ok-table.ensures in
+    (read.0, counted_alike (file_model c.args.bytes.now) (table_model c.in_ok-table.table) read.1 c.of.result c.of.ensures)

@@ -2,7 +2,7 @@ use Rattle.std.proofs.Common.{arith}
 use Rattle.std.proofs.lemmas.Nat.{mul-add-lt}
 use Rattle.tables.proofs.file.TableFileSystem.step.Goals as goal
 
-pub byte-at-requires : goal.byte-at-requires
-byte-at-requires c =
+pub byte_at-requires : goal.byte_at-requires
+byte_at-requires c =
     let f = c.args.self.now in
     omega (arith, f.inside.0, mul-add-lt c.args.from f.states c.args.to f.states (omega arith) (omega arith))
