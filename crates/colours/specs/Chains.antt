@@ -1,5 +1,5 @@
 -- What leaves a rule undecided: a chain of undecided positions to an unknown mark or an unsure step. Clauses go by number.
-use Rattle.std.specs.Prelude.{◌≡◌, ℕ, suc, ◌-◌, ◌<◌, Bool, false, ◌⊎◌, List, ◌∷◌, length, slice_index_or}
+use Rattle.std.specs.Prelude.{◌≡◌, ℕ, suc, ◌<◌, Bool, false, ◌⊎◌, List, ◌∷◌, length, slice_index_or}
 use Rattle.std.specs.List.{AllByRecursion as All}
 use Rattle.systems.specs.declared.kinds.Step.TheVariants.{Unsure}
 use Rattle.systems.specs.declared.kinds.Colour.TheVariants.{Undecided}
@@ -10,7 +10,6 @@ use Rattle.rules.specs.declared.syntax.Operator.{Operator}
 use Rattle.rules.specs.declared.syntax.Operator.TheVariants.{And, Or, AU, AV, EU, EV}
 use Rattle.rules.specs.declared.syntax.Clause.{Clause}
 use Rattle.rules.specs.declared.syntax.Clause.TheVariants.{Constant, Mark, Next, Pair}
-use Rattle.rules.specs.Formulas.{Formula}
 use Rattle.rules.specs.Clauses.{formula, whole}
 use Rattle.colours.specs.declared.chains.Position.{Position}
 use Rattle.colours.specs.declared.chains.Reason.{Reason}

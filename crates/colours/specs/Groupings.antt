@@ -1,5 +1,5 @@
 -- States gathered into groups: the model of the groups.
-use Rattle.std.specs.Prelude.{◌≡◌, ℕ, zero, suc, ◌<◌, Bool, true, false, cond, ◌&&◌, ◌||◌, ◌==◌}
+use Rattle.std.specs.Prelude.{◌≡◌, ℕ, zero, suc, ◌<◌, Bool, true, false, cond, ◌&&◌, ◌==◌}
 use Rattle.systems.specs.declared.kinds.Step.{Step}
 use Rattle.systems.specs.declared.kinds.Step.TheVariants.{Absent, Unsure, Sure}
 use Rattle.systems.specs.declared.kinds.Colour.{Colour}

@@ -1,10 +1,10 @@
 -- Lists of the states' groups.
-use Rattle.std.proofs.Common.{◌≡◌, ℕ, zero, suc, ◌+◌, ◌<◌, ◌≤◌, max, Bool, true, false, eqb, List, [], ◌∷◌, ◌++◌, length, get_or, take, replicate, Ok, Err, sym, refl, ap, ◌∙◌, subst, inl, inr, ⊎_elim, arith}
+use Rattle.std.proofs.Common.{◌≡◌, ℕ, ◌+◌, ◌<◌, ◌≤◌, max, true, false, eqb, List, [], ◌∷◌, ◌++◌, length, take, replicate, Err, sym, refl, ap, ◌∙◌, inl, inr, ⊎_elim, arith}
 use Rattle.systems.specs.Below.{all_below}
 use Rattle.std.proofs.lemmas.List.{get_or-replicate, get_or-take, take_more}
 use Rattle.std.proofs.lemmas.Bool.{eq-eqb, both_ways}
 use Rattle.systems.specs.laws.TableLaws.{all_at, all_from, any_from}
-use Rattle.groupings.specs.Members.{group_of, largest, group_count, is_used, Sized, Numbered, OneForEach, AllUsed}
+use Rattle.groupings.specs.Members.{group_of, largest, is_used, Sized, Numbered, OneForEach, AllUsed}
 use Rattle.systems.specs.declared.refusals.Refusal.{Refusal}
 use Rattle.groupings.specs.Memberships.{RefusedList, Listed}
 use Rattle.groupings.specs.laws.GroupLaws.{largest_above, largest_below, used_by}

@@ -1,5 +1,5 @@
 -- Giving states a group of their own keeps every group used.
-use Rattle.std.proofs.Common.{◌≡◌, ℕ, ◌+◌, ◌<◌, ◌≤◌, Bool, true, false, cond, eqb, List, length, sym, ap, ◌∙◌, subst, ⊎_elim, arith}
+use Rattle.std.proofs.Common.{◌≡◌, ℕ, ◌+◌, ◌<◌, Bool, true, false, cond, eqb, List, length, sym, ◌∙◌, subst, ⊎_elim, arith}
 use Rattle.std.proofs.lemmas.Bool.{cases_eq, eq-eqb, cond-true, cond-false, cond_both}
 use Rattle.systems.specs.laws.TableLaws.{any_from}
 use Rattle.groupings.specs.Members.{group_of, group_count, flagged, Sized, Numbered}

@@ -1,6 +1,6 @@
 -- Flagging the members that do not answer as the lowest-numbered one does splits the group as it should.
-use Rattle.std.proofs.Common.{◌≡◌, ℕ, ◌<◌, ◌≤◌, Bool, true, false, cond, not, ◌&&◌, eqb, List, length, Some, None, Ok, Err, Option, sym, refl, ap, ◌∙◌, subst, ⊎_elim, arith}
-use Rattle.std.proofs.lemmas.Bool.{cases_eq, cases_Bool, both_ways, eq-eqb, ne_eqb, eqb-true, eqb-false, and_parts, and_from, and_left, and_right, not-true, not_from_true, not_from_false, cond-true, cond-false}
+use Rattle.std.proofs.Common.{◌≡◌, ℕ, ◌<◌, Bool, true, false, List, length, Some, Ok, sym, refl, ap, ◌∙◌, subst, ⊎_elim, arith}
+use Rattle.std.proofs.lemmas.Bool.{cases_eq, both_ways, eq-eqb, ne_eqb, eqb-true, eqb-false, and_parts, and_from, and_left, and_right, not-true, not_from_true, not_from_false, cond-true, cond-false}
 use Rattle.systems.specs.Below.{any_below}
 use Rattle.systems.specs.Model.{Model}
 use Rattle.systems.specs.Numbers.{step_number, step_from, colour_number, colour_from}
@@ -17,7 +17,7 @@ use Rattle.groupings.specs.Grouped.{Split}
 use Rattle.groupings.specs.Memberships.{groups_of, groups_in}
 use Rattle.groupings.specs.laws.GroupLaws.{states_are}
 use Rattle.groupings.specs.declared.members.Membership.{Membership}
-use Rattle.groupings.specs.Splits.{Within, answer_number, departs, Concerned, MembersDiffer, Divided, Told}
+use Rattle.groupings.specs.Splits.{Within, answer_number, Concerned, MembersDiffer, Divided, Told}
 
 step_back : (k : Step) → step_from (step_number k) ≡ Some k
 step_back Absent = refl

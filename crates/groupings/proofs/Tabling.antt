@@ -1,5 +1,5 @@
 -- The arrays that a grouping is written into are a table.
-use Rattle.std.proofs.Common.{◌≡◌, ℕ, ◌<◌, ◌≤◌, Bool, List, Some, None, sym, refl, arith}
+use Rattle.std.proofs.Common.{◌≡◌, ℕ, ◌<◌, ◌≤◌, Bool, List, None, sym, refl, arith}
 use Rattle.std.proofs.lemmas.Bool.{le-leb}
 use Rattle.systems.specs.Model.{Model, Lawful, Agree}
 use Rattle.systems.specs.Tabled.{step_at, value_at, start_at, written_model, written_fault}

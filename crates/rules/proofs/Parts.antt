@@ -10,7 +10,7 @@ use Rattle.rules.specs.declared.pieces.Joint.{Joint}
 use Rattle.rules.specs.declared.clause_list.ClauseList.{ClauseList}
 use Rattle.rules.specs.Formulas.{contrary}
 use Rattle.rules.specs.Clauses.{size, numbered}
-use Rattle.rules.specs.Trees.{Tree, nesting, normal_form}
+use Rattle.rules.specs.Trees.{Tree, normal_form}
 use Rattle.rules.specs.reader.Machine.{under, left, right, want, outcome}
 use Rattle.rules.specs.reader.Filling.{Adds, polar, turn_operator, turn_constant, flip, leading, trailing}
 use Rattle.rules.specs.reader.Scans.{Leads, headed, Joins, Closes}

@@ -1,8 +1,6 @@
 -- What the reader of single bytes and the list of clauses say of a whole text.
-use Rattle.std.proofs.Common.{◌≡◌, ℕ, suc, ◌+◌, ◌-◌, ◌<◌, ◌≤◌, false, List, [], length, take, Option, ap, ◌∙◌, subst, ap₂, arith}
+use Rattle.std.proofs.Common.{◌≡◌, ℕ, suc, ◌+◌, ◌-◌, ◌<◌, ◌≤◌, false, List, [], length, take, ap, ◌∙◌, subst, arith}
 use Rattle.std.proofs.lemmas.List.{same_lists, length-take-le, get_or-take, get_or_default}
-use Rattle.systems.specs.declared.refusals.Refusal.{Refusal}
-use Rattle.systems.specs.declared.refusals.Fault.{Fault}
 use Rattle.rules.specs.declared.pieces.Prefix.{Prefix}
 use Rattle.rules.specs.declared.syntax.Clause.{Clause}
 use Rattle.rules.specs.declared.clause_list.ClauseList.{ClauseList}

@@ -1,5 +1,5 @@
 -- What is counted of a system is counted of every system that agrees with it.
-use Rattle.std.proofs.Common.{◌≡◌, ℕ, zero, suc, ◌+◌, ◌<◌, Bool, cond, eqb, sym, refl, ap, ◌∙◌, arith}
+use Rattle.std.proofs.Common.{◌≡◌, ℕ, zero, suc, ◌<◌, Bool, cond, eqb, sym, refl, ap, ◌∙◌, arith}
 use Rattle.systems.specs.Below.{count_below, count_cells}
 use Rattle.systems.specs.Counted.{Counted, is_step, is_mark, steps_of, marks_of}
 use Rattle.systems.specs.Model.{Model, Agree, Exact}

@@ -1,5 +1,5 @@
 -- A system is exact just where no unsure step and no unknown mark is counted.
-use Rattle.std.proofs.Common.{◌≡◌, ℕ, ◌<◌, true, refl, ap, arith}
+use Rattle.std.proofs.Common.{◌≡◌, refl, ap, arith}
 use Rattle.std.proofs.lemmas.Bool.{eq-eqb, ne_eqb}
 use Rattle.systems.specs.Counted.{is_step, is_mark, steps_of, marks_of}
 use Rattle.systems.specs.Model.{Model, Exact}

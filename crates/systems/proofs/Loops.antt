@@ -1,5 +1,5 @@
 -- One turn of a loop that joins a test.
-use Rattle.std.proofs.Common.{◌≡◌, ℕ, ◌+◌, Bool, ◌&&◌, ◌||◌, sym, refl, ap, ◌∙◌, add-one}
+use Rattle.std.proofs.Common.{◌≡◌, ℕ, ◌+◌, Bool, ◌&&◌, ◌||◌, refl, add-one}
 use Rattle.systems.specs.Below.{all_below, any_below}
 
 pub all_more : (test : ℕ → Bool) (i : ℕ) (here so_far : Bool) → here ≡ test i → so_far ≡ all_below test i → (here && so_far) ≡ all_below test (i + 1)

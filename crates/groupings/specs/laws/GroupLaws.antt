@@ -1,15 +1,15 @@
 -- A grouping keeps the laws of a system.
-use Rattle.std.specs.Prelude.{◌≡◌, ℕ, zero, suc, ◌+◌, ◌-◌, ◌<◌, ◌≤◌, max, Bool, true, false, cond, ◌&&◌, List, [], ◌∷◌, length, replicate, ◌==◌, nat_eq}
+use Rattle.std.specs.Prelude.{◌≡◌, ℕ, zero, suc, ◌+◌, ◌-◌, ◌<◌, ◌≤◌, Bool, true, false, cond, ◌&&◌, List, [], ◌∷◌, length, replicate, ◌==◌, nat_eq}
 use Rattle.std.proofs.Common.{le_of_suc-le-suc, not-suc-le-zero, eq-or-lt_of_le, arith, sym, ap, subst, ◌∙◌, ⊎_elim}
 use Rattle.std.proofs.Math.Path.{refl}
 use Rattle.std.proofs.lemmas.List.{length-take-le, length-replicate, get_or-take, get_or-replicate}
 use Rattle.std.proofs.lemmas.Bool.{eq-eqb, ne_eqb, eqb-true, cases_eq, cases_Bool, both_ways}
-use Rattle.systems.specs.Below.{all_below, any_below}
+use Rattle.systems.specs.Below.{all_below}
 use Rattle.systems.specs.Model.{Model, Lawful}
 use Rattle.systems.specs.laws.TableLaws.{all_at, any_at, any_from}
 use Rattle.systems.specs.declared.kinds.Step.{Step}
 use Rattle.systems.specs.declared.kinds.Step.TheVariants.{Absent, Unsure, Sure}
-use Rattle.colours.specs.Groupings.{is_sure, is_absent, surer, surest, strength, group_step, group_start}
+use Rattle.colours.specs.Groupings.{is_absent, surer, surest, strength, group_step, group_start}
 use Rattle.groupings.specs.Members.{group_of, largest, group_count, by_list, AllUsed, is_used}
 use Rattle.groupings.specs.Memberships.{groups_of, groups_in}
 use Rattle.groupings.specs.declared.members.Membership.{Membership}

@@ -1,8 +1,8 @@
 -- The pass store keeps the laws of a system.
-use Rattle.std.specs.Prelude.{◌≡◌, ℕ, ◌+◌, ◌*◌, ◌/◌, ◌%◌, ◌<◌, ◌≤◌, Bool, true, false, cond, refl}
+use Rattle.std.specs.Prelude.{◌≡◌, ℕ, ◌+◌, ◌*◌, ◌/◌, ◌%◌, ◌<◌, ◌≤◌, refl}
 use Rattle.std.proofs.Common.{arith, ⊎_elim}
 use Rattle.std.proofs.lemmas.Bool.{cases_lt, lt-ltb, le-ltb, eq-eqb}
-use Rattle.systems.specs.Model.{Model, Lawful, Possibly}
+use Rattle.systems.specs.Model.{Lawful, Possibly}
 use Rattle.systems.specs.Passes.{pass_model, pass_step}
 use Rattle.systems.specs.declared.kinds.Step.{Step}
 use Rattle.systems.specs.declared.kinds.Step.TheVariants.{Absent, Sure}

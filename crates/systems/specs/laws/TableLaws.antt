@@ -1,9 +1,9 @@
 -- A table keeps the laws of a system, and a copy of a system can be kept in one.
-use Rattle.std.specs.Prelude.{◌≡◌, ℕ, ◌<◌, ◌≤◌, Bool, true, false, List, refl}
-use Rattle.std.proofs.Common.{arith, sym, ap, subst, ◌∙◌}
+use Rattle.std.specs.Prelude.{◌≡◌, ℕ, ◌<◌, Bool, true, List, refl}
+use Rattle.std.proofs.Common.{arith, sym, ap, ◌∙◌}
 use Rattle.std.proofs.lemmas.Bool.Decides.{Decides-below_or, Decides-below_and}
 use Rattle.systems.specs.Below.{all_below, any_below}
-use Rattle.systems.specs.Model.{Model, Lawful, Agree, Possibly}
+use Rattle.systems.specs.Model.{Model, Lawful, Agree}
 use Rattle.systems.specs.Numbers.{is_possible}
 use Rattle.systems.specs.Tabled.{InRange, GoesAndStarts, written_model, leads, leads_on, step_at, start_at}
 use Rattle.systems.specs.declared.kinds.Step.{Step}

@@ -1,5 +1,4 @@
 use Rattle.std.proofs.Common.{◌≡◌, ◌*◌, ◌<◌, ◌≤◌, length, subst, ap₂, subst₂, inl, inr}
-use Rattle.queue.specs.Held.{room}
 use Rattle.systems.specs.Written.{table_model}
 use Rattle.rules.specs.Rules.{clause_list}
 use Rattle.colours.specs.Boards.{positions}

@@ -1,6 +1,5 @@
-use Rattle.std.proofs.Common.{◌≡◌, ℕ, length, refl, ap, ◌∙◌, subst}
+use Rattle.std.proofs.Common.{ℕ, length, refl, ap, ◌∙◌, subst}
 use Rattle.groupings.specs.Grouped.{groups_at}
-use Rattle.groupings.specs.Members.{group_count}
 use Rattle.groupings.specs.Memberships.{groups_of}
 use Rattle.groupings.specs.Splits.{Within}
 use Rattle.groupings.specs.laws.GroupLaws.{fitted_partition}

@@ -1,4 +1,4 @@
-use Rattle.std.proofs.Common.{◌≡◌, ℕ, ◌<◌, sym, ap, ◌∙◌, subst, arith}
+use Rattle.std.proofs.Common.{ℕ, sym, ap, ◌∙◌, arith}
 use Rattle.colours.specs.Groupings.{group_named}
 use Rattle.groupings.specs.Members.{group_of, group_count}
 use Rattle.groupings.specs.Memberships.{groups_of}

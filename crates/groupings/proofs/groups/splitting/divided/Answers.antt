@@ -1,4 +1,4 @@
-use Rattle.std.proofs.Common.{◌≡◌, ℕ, sym, ap, ◌∙◌}
+use Rattle.std.proofs.Common.{sym, ap, ◌∙◌}
 use Rattle.systems.specs.Below.{any_below}
 use Rattle.groupings.specs.Members.{flagged}
 use Rattle.groupings.specs.Memberships.{groups_of}

@@ -1,5 +1,4 @@
-use Rattle.std.proofs.Common.{◌≡◌, ℕ, ◌+◌, ◌*◌, ◌<◌, length, get_or, sym, refl, ap, ◌∙◌, arith}
-use Rattle.systems.specs.declared.kinds.Colour.{Colour}
+use Rattle.std.proofs.Common.{◌+◌, ◌*◌, ◌<◌, length, get_or, ap, ◌∙◌, arith}
 use Rattle.systems.specs.declared.kinds.Colour.TheVariants.{Undecided}
 use Rattle.groupings.specs.Joined.{joined_mark}
 use Rattle.groupings.proofs.Rows.{joining_marks, changed_more, other_row}

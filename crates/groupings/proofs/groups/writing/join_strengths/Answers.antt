@@ -1,4 +1,4 @@
-use Rattle.std.proofs.Common.{◌≡◌, ℕ, ◌+◌, ◌*◌, ◌<◌, length, get_or, sym, refl, ap, ◌∙◌, arith}
+use Rattle.std.proofs.Common.{◌+◌, ◌*◌, ◌<◌, length, arith}
 use Rattle.systems.specs.declared.kinds.Step.TheVariants.{Absent}
 use Rattle.groupings.proofs.Rows.{joining_steps, changed_more, other_row}
 use Rattle.groupings.proofs.groups.writing.join_strengths.Goals as goal

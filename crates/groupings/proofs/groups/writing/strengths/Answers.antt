@@ -1,11 +1,10 @@
-use Rattle.std.proofs.Common.{◌≡◌, ℕ, ◌+◌, ◌<◌, List, length, get_or, set, replicate, sym, refl, ap, ◌∙◌, subst, arith, length-set}
+use Rattle.std.proofs.Common.{◌≡◌, ◌<◌, length, get_or, refl, ap, ◌∙◌, arith, length-set}
 use Rattle.std.proofs.lemmas.List.{get_or-replicate}
-use Rattle.systems.specs.declared.kinds.Step.{Step}
 use Rattle.systems.specs.declared.kinds.Step.TheVariants.{Absent}
 use Rattle.colours.specs.Groupings.{surer, surest, strength}
 use Rattle.groupings.specs.Members.{group_of}
 use Rattle.groupings.specs.Memberships.{groups_of}
-use Rattle.groupings.proofs.Joins.{step_into, Gathered, gathered_more}
+use Rattle.groupings.proofs.Joins.{step_into, gathered_more}
 use Rattle.groupings.proofs.groups.writing.strengths.Goals as goal
 
 pub loop-to-init : goal.loop-to-init

@@ -1,4 +1,4 @@
-use Rattle.std.proofs.Common.{◌≡◌, eqb, ap, ◌∙◌, arith}
+use Rattle.std.proofs.Common.{eqb, ap, ◌∙◌, arith}
 use Rattle.systems.specs.declared.kinds.Step.TheVariants.{Absent}
 use Rattle.systems.specs.Tabled.{step_at}
 use Rattle.colours.specs.Groupings.{strength}

@@ -1,4 +1,4 @@
-use Rattle.std.proofs.Common.{ℕ, List, take, sym, refl, ap, ◌∙◌, inl, inr, arith}
+use Rattle.std.proofs.Common.{ℕ, take, sym, refl, ap, ◌∙◌, inl, inr, arith}
 use Rattle.groupings.proofs.Lists.{each_below, not_each_below, each_used, not_each_used, list_numbered}
 use Rattle.groupings.proofs.members.Membership.from_list.Goals as goal
 

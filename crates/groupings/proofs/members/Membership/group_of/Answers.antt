@@ -1,4 +1,4 @@
-use Rattle.std.proofs.Common.{sym, ◌∙◌, arith}
+use Rattle.std.proofs.Common.{sym, arith}
 use Rattle.std.proofs.lemmas.List.{get_or_past}
 use Rattle.groupings.specs.Memberships.{groups_of}
 use Rattle.groupings.specs.laws.GroupLaws.{number_at, states_are, groups_are}

@@ -1,4 +1,4 @@
-use Rattle.std.proofs.Common.{ℕ, replicate, ap, ◌∙◌, arith}
+use Rattle.std.proofs.Common.{ℕ, replicate, ap, ◌∙◌}
 use Rattle.std.proofs.lemmas.List.{take-replicate}
 use Rattle.groupings.proofs.Lists.{zeros_numbered}
 use Rattle.groupings.proofs.members.Membership.whole.Goals as goal

@@ -1,5 +1,5 @@
-use Rattle.systems.specs.Counted.{is_step, is_mark}
-use Rattle.systems.proofs.Counts.{Counting, Adding}
+use Rattle.systems.specs.Counted.{is_mark}
+use Rattle.systems.proofs.Counts.{Counting}
 use Rattle.systems.proofs.counting.tallies.count_marks_at.Given as goal
 
 abbrev pub invariant-loop-mark : goal.invariant-loop-mark

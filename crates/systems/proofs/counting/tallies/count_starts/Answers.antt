@@ -1,4 +1,4 @@
-use Rattle.std.proofs.Common.{ℕ, ◌+◌, sym, subst}
+use Rattle.std.proofs.Common.{◌+◌, sym, subst}
 use Rattle.systems.proofs.Counts.{Counting, count_hit, count_miss}
 use Rattle.systems.proofs.counting.tallies.count_starts.Goals.{then-start_of, else-start_of}
 use Rattle.systems.proofs.counting.tallies.count_starts.Goals as goal

@@ -1,5 +1,4 @@
-use Rattle.systems.specs.Counted.{is_step, is_mark}
-use Rattle.systems.proofs.Counts.{Counting, Adding}
+use Rattle.systems.proofs.Counts.{Counting}
 use Rattle.systems.proofs.counting.tallies.count_starts.Given as goal
 
 abbrev pub invariant-loop-state : goal.invariant-loop-state

@@ -1,4 +1,4 @@
-use Rattle.std.proofs.Common.{ℕ, ◌+◌, ◌*◌, ◌<◌, length, arith}
+use Rattle.std.proofs.Common.{◌+◌, ◌*◌, ◌<◌, length, arith}
 use Rattle.systems.specs.declared.kinds.Step.TheVariants.{Absent}
 use Rattle.systems.proofs.Rows.{row_none, row_more}
 use Rattle.systems.proofs.tabled.copying.copy_row.Goals as goal
