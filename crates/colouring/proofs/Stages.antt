@@ -2,7 +2,7 @@
 use Rattle.std.proofs.Common.{◌≡◌, ℕ, ◌+◌, ◌%◌, ◌<◌, ◌≤◌, false, ◌⊎◌, List, length, get_or, Ok, Err, sym, refl, ap, ◌∙◌, subst, not-suc-le-zero, arith}
 use native.Mathlib.Decide.{ℕ_discrete}
 use lib.Arith.{digits_lt, digits_mod}
-use Rattle.std.specs.List.{AllByRecursion as All}
+use Rattle.std.specs.List.{AllByRecursion}
 use Rattle.std.proofs.ByRecursion.{All-get_or}
 use Rattle.systems.specs.declared.refusals.Refusal.TheVariants.{WorkspaceTooSmall}
 use Rattle.systems.specs.Model.{Model}
@@ -22,7 +22,7 @@ module _ (M : Model) (cs : List Clause) (b₀ : List ℕ) where
   -- the clauses before i are coloured
   abbrev pub ColouredBelow : List ℕ → ℕ → Type 0
   ColouredBelow b i =
-      (All (MarkBelow M.marks) cs → (c : ℕ) → c < i → ShowsRule M b (length cs) c (formula cs c))
+      (AllByRecursion (MarkBelow M.marks) cs → (c : ℕ) → c < i → ShowsRule M b (length cs) c (formula cs c))
       × ((k : ℕ) → positions M cs ≤ k → get_or b k 0 ≡ get_or b₀ k 0)
 
   pub coloured_none : ColouredBelow b₀ 0

@@ -1,6 +1,6 @@
 -- What colouring a board does.
 use Rattle.std.specs.Prelude.{◌≡◌, ℕ, ◌<◌, ◌≤◌, ◌⊎◌, List, length, Ok, Err, Result, slice_index}
-use Rattle.std.specs.List.{AllByRecursion as All}
+use Rattle.std.specs.List.{AllByRecursion}
 use Rattle.systems.specs.declared.refusals.Refusal.{Refusal}
 use Rattle.systems.specs.declared.refusals.Refusal.TheVariants.{WorkspaceTooSmall}
 use Rattle.systems.specs.Model.{Model}
@@ -12,7 +12,7 @@ use Rattle.queue.specs.Held.{room}
 
 -- the board b' is what becomes of b: it shows the colours of a rule whose marks the model has, and bytes beyond the positions are as they were
 pub record Becomes (M : Model) (cs : List Clause) (b b' : List ℕ) : Type 0 where
-  pub coloured : All (MarkBelow M.marks) cs → Coloured M cs b'
+  pub coloured : AllByRecursion (MarkBelow M.marks) cs → Coloured M cs b'
   pub beyond : (k : ℕ) → positions M cs ≤ k → slice_index b' k ≡ slice_index b k
   pub long : length b' ≡ length b
 

@@ -1,7 +1,7 @@
 -- From an undecided position a chain leads to an end: the positions that chains reach are gathered until one has an end.
 use Rattle.std.proofs.Common.{◌≡◌, ℕ, zero, suc, ◌-◌, ◌<◌, ◌≤◌, Bool, true, false, ◌⊎◌, List, [], ◌∷◌, ◌++◌, length, sym, refl, ap, subst, ap₂, inl, inr, not-suc-le-zero, arith}
 use native.Mathlib.Decide.{ℕ_discrete}
-use Rattle.std.specs.List.{AllByRecursion as All}
+use Rattle.std.specs.List.{AllByRecursion}
 use Rattle.systems.specs.declared.kinds.Colour.{Colour}
 use Rattle.systems.specs.declared.kinds.Colour.TheVariants.{Undecided, F, T}
 use Rattle.systems.specs.Model.{Model, Starts}
@@ -68,17 +68,17 @@ in_grid (suc g) C p a b = elim (ℕ_discrete p.group g) [
   | no n ↦ in_right p (row g C) (grid g C) (in_grid g C p (omega arith) b)
 ]
 
-last_of : (P : Position → Type 0) (p : Position) (ps : List Position) → All P (p ∷ ps) → P (last p ps)
+last_of : (P : Position → Type 0) (p : Position) (ps : List Position) → AllByRecursion P (p ∷ ps) → P (last p ps)
 last_of P p [] a = a.0
 last_of P p (q ∷ qs) a = last_of P q qs a.1
 
 module _ (step : Position → Position → Type 0) (P : Position → Type 0) where
   -- a walk of different positions from p to e
   abbrev PathTo : Position → Position → Type 0
-  PathTo p e = (ps : List Position) × Walk step p ps × All P (p ∷ ps) × Distinct (p ∷ ps) × (last p ps ≡ e)
+  PathTo p e = (ps : List Position) × Walk step p ps × AllByRecursion P (p ∷ ps) × Distinct (p ∷ ps) × (last p ps ≡ e)
 
   -- from where p stands on it
-  from_there : (p q e : Position) (qs : List Position) → Among p (q ∷ qs) → Walk step q qs → All P (q ∷ qs) → Distinct (q ∷ qs)
+  from_there : (p q e : Position) (qs : List Position) → Among p (q ∷ qs) → Walk step q qs → AllByRecursion P (q ∷ qs) → Distinct (q ∷ qs)
       → last q qs ≡ e → PathTo p e
   from_there p q e qs (inl same) w a d l = subst (λ x. PathTo x e) (sym same) (qs, w, a, d, l)
   from_there p q e [] (inr m) w a d l = absurd m
@@ -98,7 +98,7 @@ module _ (step : Position → Position → Type 0) (P : Position → Type 0) whe
   at_end : (p e n : Position) → PathTo p e → step e n → P n → PathTo p n
   at_end p e n (ps, w, a, d, l) s x = go p ps w a (subst (λ y. step y n) (sym l) s)
     where
-      go : (p : Position) (ps : List Position) → Walk step p ps → All P (p ∷ ps) → step (last p ps) n → PathTo p n
+      go : (p : Position) (ps : List Position) → Walk step p ps → AllByRecursion P (p ∷ ps) → step (last p ps) n → PathTo p n
       go p [] w a s = in_front p n n a.0 s (alone n x)
       go p (q ∷ qs) w a s = in_front p q n a.0 w.0 (go q qs w.1 a.1 s)
 

@@ -1,6 +1,6 @@
 -- `Until` is the least and `Release` the greatest set of states that its law allows.
 use Rattle.std.proofs.Common.{◌≡◌, ℕ, zero, suc, ◌<◌, ◌≤◌, ◌⊎◌, List, [], ◌∷◌, length, sym, refl, subst, inl, inr, arith}
-use Rattle.std.specs.List.{AllByRecursion as All}
+use Rattle.std.specs.List.{AllByRecursion}
 use Rattle.colours.specs.Walks.{Walk, last, before, Among, Until, Release}
 use Rattle.colours.proofs.Lists.{all_among, below, among_below, drop_at, length_drop_at, move}
 
@@ -20,7 +20,7 @@ module _ (step : ℕ → ℕ → Type 0) (r q : ℕ → Type 0) where
   pub until_least : (X : ℕ → Type 0) → ((s : ℕ) → q s → X s) → ((s t : ℕ) → r s → step s t → X t → X s) → (s : ℕ) → Until step r q s → X s
   until_least X here next s u = go u.0 s u.1 u.2 u.3
     where
-      go : (ts : List ℕ) (s : ℕ) → Walk step s ts → q (last s ts) → All r (before s ts) → X s
+      go : (ts : List ℕ) (s : ℕ) → Walk step s ts → q (last s ts) → AllByRecursion r (before s ts) → X s
       go [] s w e b = here s e
       go (t ∷ ts) s w e b = next s t b.0 w.0 (go ts t w.1 e b.1)
 
@@ -55,7 +55,7 @@ module _ (step : ℕ → ℕ → Type 0) (r q : ℕ → Type 0) where
   module _ (n : ℕ) (bounded : (s t : ℕ) → step s t → s < n) (X : ℕ → Type 0) (out : HoldsOut X) where
     -- a walk as for `Release`, whose last state may also be one seen before
     Joins : List ℕ → ℕ → Type 0
-    Joins seen s = (ts : List ℕ) × Walk step s ts × All q (s ∷ ts) ×
+    Joins seen s = (ts : List ℕ) × Walk step s ts × AllByRecursion q (s ∷ ts) ×
         (r (last s ts) ⊎ (Among (last s ts) (before s ts) ⊎ Among (last s ts) seen))
 
     -- every number below n has been seen or not

@@ -1,6 +1,6 @@
 -- Maximal paths are made by a step in front of one, and by going on for ever; so every state has one.
 use Rattle.std.proofs.Common.{◌≡◌, ℕ, zero, suc, ◌<◌, ◌≤◌, ◌⊎◌, List, [], ◌∷◌, sym, refl, subst, inl, inr, arith}
-use Rattle.std.specs.List.{AllByRecursion as All}
+use Rattle.std.specs.List.{AllByRecursion}
 use Rattle.colours.specs.Walks.{Walk, last, before, Among, Release}
 use Rattle.colours.specs.Paths.{Length, ends_at, endless, Place, Path, Maximal}
 use Rattle.colours.proofs.Lists.{find, below, among_below}
@@ -41,7 +41,7 @@ in_front s path = record { length = longer path.length; at = after s path.at }
 abbrev pub Any : ℕ → Type 0
 Any s = Unit {0}
 
-pub all_parts : (P : ℕ → Type 0) (s : ℕ) (ts : List ℕ) → All P (s ∷ ts) → All P (before s ts) × P (last s ts)
+pub all_parts : (P : ℕ → Type 0) (s : ℕ) (ts : List ℕ) → AllByRecursion P (s ∷ ts) → AllByRecursion P (before s ts) × P (last s ts)
 all_parts P s [] a = (tt, a.0)
 all_parts P s (t ∷ ts) a = let b = all_parts P t ts a.1 in ((a.0, b.0), b.1)
 
@@ -83,7 +83,7 @@ module _ (step : ℕ → ℕ → Type 0) where
 
   -- the states of a walk whose last state stood earlier can always be stayed in
   pub stay_among : (q : ℕ → Type 0) (s : ℕ)
-      → ((ts : List ℕ) × Walk step s ts × All q (s ∷ ts) × Among (last s ts) (before s ts))
+      → ((ts : List ℕ) × Walk step s ts × AllByRecursion q (s ∷ ts) × Among (last s ts) (before s ts))
       → (path : Path) × Maximal step s path × (path.length ≡ endless) × ((k : ℕ) → q (path.at k))
   stay_among q s w =
       let out = release_holds_out step (λ x. ⊥) q s (w.0, w.1, w.2, inr w.3) in

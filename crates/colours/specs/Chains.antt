@@ -1,6 +1,6 @@
 -- What leaves a rule undecided: a chain of undecided positions to an unknown mark or an unsure step. Clauses go by number.
 use Rattle.std.specs.Prelude.{◌≡◌, ℕ, suc, ◌<◌, Bool, false, ◌⊎◌, List, ◌∷◌, length, slice_index_or}
-use Rattle.std.specs.List.{AllByRecursion as All}
+use Rattle.std.specs.List.{AllByRecursion}
 use Rattle.systems.specs.declared.kinds.Step.TheVariants.{Unsure}
 use Rattle.systems.specs.declared.kinds.Colour.TheVariants.{Undecided}
 use Rattle.systems.specs.Model.{Model, Possibly, Starts}
@@ -91,7 +91,7 @@ module _ (M : Model) (cs : List Clause) where
   -- p and then ps is a chain that ends for that reason
   pub record Chain (p : Position) (ps : List Position) (reason : Reason) : Type 0 where
     pub linked : Walk GoesOn p ps
-    pub undecided : All Open (p ∷ ps)
+    pub undecided : AllByRecursion Open (p ∷ ps)
     pub different : Distinct (p ∷ ps)
     pub ended : Ends (last p ps) reason
 

@@ -1,7 +1,7 @@
 -- A search on a coloured board never runs dry, and what it finds is a chain.
 use Rattle.std.proofs.Common.{◌≡◌, ℕ, List, [], ◌∷◌, length, Option, sym, refl, subst, inl, inr}
 use native.Mathlib.Decide.{ℕ_discrete}
-use Rattle.std.specs.List.{AllByRecursion as All}
+use Rattle.std.specs.List.{AllByRecursion}
 use Rattle.systems.specs.Model.{Model}
 use Rattle.rules.specs.declared.syntax.Clause.{Clause}
 use Rattle.rules.specs.Clauses.{WellFounded}
@@ -34,9 +34,9 @@ module _ (M : Model) (cs : List Clause) (board : List ℕ) (coloured : Coloured 
     ]
 
     -- the way from the start goes on from each position to the next
-    goes : (q : Position) (ps : List Position) → All (Inside M.states (length cs)) (q ∷ ps)
-        → All (λ p. ¬ (place_of (length cs) p ≡ place_of (length cs) start)) ps
-        → Walk (StandsBefore (length cs) table) q ps → Walk (GoesOn M cs) q ps × All (Open M cs) ps
+    goes : (q : Position) (ps : List Position) → AllByRecursion (Inside M.states (length cs)) (q ∷ ps)
+        → AllByRecursion (λ p. ¬ (place_of (length cs) p ≡ place_of (length cs) start)) ps
+        → Walk (StandsBefore (length cs) table) q ps → Walk (GoesOn M cs) q ps × AllByRecursion (Open M cs) ps
     goes q [] i a w = (tt, tt)
     goes q (n ∷ ps) i a w =
         let s = led_on q n i.0 (led n q i.1.0 w.0 a.0) in

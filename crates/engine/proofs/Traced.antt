@@ -1,6 +1,6 @@
 -- The way back, step by step, and its positions written in order.
 use Rattle.std.proofs.Common.{◌≡◌, ℕ, suc, ◌+◌, ◌-◌, ◌<◌, ◌≤◌, List, [], ◌∷◌, ◌++◌, map, reverse, length, take, drop, set, Some, Option, sym, refl, ap, ◌∙◌, inl, inr, add-one, arith, length-set}
-use Rattle.std.specs.List.{AllByRecursion as All}
+use Rattle.std.specs.List.{AllByRecursion}
 use Rattle.std.proofs.ByRecursion.{All-weaker}
 use Rattle.std.proofs.lemmas.List.{append_assoc, length_push, length-reverse, length-map, reverse-append, map_push, drop-set, reverse-reverse}
 use Rattle.systems.specs.Model.{Model}
@@ -41,7 +41,7 @@ writing_more all l kept left list w =
     }
 
 -- what has a lower rank than each of a list stands not in it
-not_among : (rank : ℕ → ℕ) (C : ℕ) (p : Position) (ps : List Position) → All (λ q. rank (place_of C p) < rank (place_of C q)) ps → ¬ Among p ps
+not_among : (rank : ℕ → ℕ) (C : ℕ) (p : Position) (ps : List Position) → AllByRecursion (λ q. rank (place_of C p) < rank (place_of C q)) ps → ¬ Among p ps
 not_among rank C p [] h a = a
 not_among rank C p (q ∷ ps) h (inl e) = omega (arith, h.0, ap (λ x. rank (place_of C x)) e)
 not_among rank C p (q ∷ ps) h (inr a) = not_among rank C p ps h.1 a

@@ -1,7 +1,7 @@
 -- The conditions of a call can be decided.
 use Rattle.std.proofs.Common.{◌≡◌, ℕ, ◌<◌, ◌≤◌, ◌⊎◌, List, [], ◌∷◌, length, refl, inl, inr}
 use native.Mathlib.Decide.{ℕ_discrete, dec_le, dec_lt, map_dec}
-use Rattle.std.specs.List.{AllByRecursion as All}
+use Rattle.std.specs.List.{AllByRecursion}
 use Rattle.systems.specs.declared.kinds.Colour.TheVariants.{Undecided}
 use Rattle.systems.specs.declared.refusals.Refusal.{Refusal}
 use Rattle.systems.specs.Model.{Model}
@@ -29,7 +29,7 @@ and? (yes p) (yes q) = yes (p, q)
 and? (yes p) (no k) = no (λ h. k h.1)
 and? (no k) d = no (λ h. k h.0)
 
-all? : {X : Type 0} (P : X → Type 0) → ((x : X) → Dec (P x)) → (xs : List X) → Dec (All P xs)
+all? : {X : Type 0} (P : X → Type 0) → ((x : X) → Dec (P x)) → (xs : List X) → Dec (AllByRecursion P xs)
 all? P p? [] = yes tt
 all? P p? (x ∷ xs) = and? (p? x) (all? P p? xs)
 

@@ -1,7 +1,7 @@
 -- An undecided verdict has a chain, and different positions are no more than the places of a board.
 use Rattle.std.proofs.Common.{◌≡◌, ℕ, zero, suc, ◌*◌, ◌/◌, ◌%◌, ◌<◌, ◌≤◌, List, [], ◌∷◌, map, length, sym, refl, ap, ◌∙◌, ap₂, inl, inr, arith}
 use lib.Arith.{digits_lt, digits_div, digits_mod}
-use Rattle.std.specs.List.{AllByRecursion as All}
+use Rattle.std.specs.List.{AllByRecursion}
 use Rattle.std.proofs.ByRecursion.{All-map, All-weaker}
 use Rattle.std.proofs.lemmas.List.{length-map}
 use Rattle.colours.specs.declared.chains.Position.{Position}
@@ -14,7 +14,7 @@ use Rattle.law.specs.Ledgers.{model}
 use Rattle.law.specs.Theorems.{HasACause}
 
 -- those of xs that stand in ys stand there without x, if x is none of them
-without : (x : ℕ) (xs ys : List ℕ) (m : Among x ys) → ¬ Among x xs → All (λ y. Among y ys) xs → All (λ y. Among y (drop_at x ys m)) xs
+without : (x : ℕ) (xs ys : List ℕ) (m : Among x ys) → ¬ Among x xs → AllByRecursion (λ y. Among y ys) xs → AllByRecursion (λ y. Among y (drop_at x ys m)) xs
 without x [] ys m n a = tt
 without x (y ∷ xs) ys m n a = (
   elim (among_drop_at x y ys m a.0) [ inl e ↦ absurd (n (inl (sym e))) | inr h ↦ h ],
@@ -22,7 +22,7 @@ without x (y ∷ xs) ys m n a = (
 )
 
 -- different numbers that all stand in a list are no more than its places
-no_more_than : (xs ys : List ℕ) → Distinct xs → All (λ x. Among x ys) xs → length xs ≤ length ys
+no_more_than : (xs ys : List ℕ) → Distinct xs → AllByRecursion (λ x. Among x ys) xs → length xs ≤ length ys
 no_more_than [] ys d a = omega arith
 no_more_than (x ∷ xs) ys d a =
     omega (arith, length_drop_at x ys a.0, no_more_than xs (drop_at x ys a.0) d.1 (without x xs ys a.0 d.0 a.1))
@@ -44,16 +44,16 @@ module _ (groups clauses : ℕ) where
       (sym (digits_div p.group a.1) ∙ ap (λ k. k / clauses) e ∙ digits_div q.group b.1)
       (sym (digits_mod p.group a.1) ∙ ap (λ k. k % clauses) e ∙ digits_mod q.group b.1)
 
-  among_places : (p : Position) (ps : List Position) → InRange p → All InRange ps → Among (place_of p) (map place_of ps) → Among p ps
+  among_places : (p : Position) (ps : List Position) → InRange p → AllByRecursion InRange ps → Among (place_of p) (map place_of ps) → Among p ps
   among_places p [] a b m = absurd m
   among_places p (q ∷ ps) a b (inl e) = inl (place_once p q a b.0 e)
   among_places p (q ∷ ps) a b (inr m) = inr (among_places p ps a b.1 m)
 
-  distinct_places : (ps : List Position) → All InRange ps → Distinct ps → Distinct (map place_of ps)
+  distinct_places : (ps : List Position) → AllByRecursion InRange ps → Distinct ps → Distinct (map place_of ps)
   distinct_places [] a d = tt
   distinct_places (p ∷ ps) a d = ((λ m. d.0 (among_places p ps a.0 a.1 m)), distinct_places ps a.1 d.1)
 
-  fits_board : (ps : List Position) → All InRange ps → Distinct ps → length ps ≤ groups * clauses
+  fits_board : (ps : List Position) → AllByRecursion InRange ps → Distinct ps → length ps ≤ groups * clauses
   unfolding place_of
   fits_board ps a d =
       let inside = All-map (λ k. Among k (below (groups * clauses))) place_of ps

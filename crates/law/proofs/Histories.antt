@@ -1,6 +1,6 @@
 -- Runs in parts, and what they do to the groups.
 use Rattle.std.proofs.Common.{◌≡◌, ℕ, zero, suc, ◌+◌, List, [], ◌∷◌, ◌++◌, sym, refl, ap, ◌∙◌, subst, arith}
-use Rattle.std.specs.List.{AllByRecursion as All}
+use Rattle.std.specs.List.{AllByRecursion}
 use Rattle.systems.specs.Model.{Model}
 use Rattle.groupings.specs.Members.{group_count}
 use Rattle.law.specs.Ledgers.{Ledger, Sound}
@@ -53,7 +53,7 @@ module _ (M : Model) where
       go (cause b q n k) same (accepts h a) = ap (λ m. m.groups) a.1
       go (split slip) same (accepts h a) = absurd (still.0 (slip, same, ap (λ y. y.answer) a.0))
 
-  pub kept : (l : Ledger) (es : List Event) → Run M l es → All Neither es → (ledger_after l es).groups ≡ l.groups
+  pub kept : (l : Ledger) (es : List Event) → Run M l es → AllByRecursion Neither es → (ledger_after l es).groups ≡ l.groups
   kept l [] run a = refl
   kept l (e ∷ es) run a = kept e.after es run.2 a.1 ∙ same_groups e a.0 run.1 ∙ ap (λ m. m.groups) run.0
 

@@ -1,6 +1,6 @@
 -- Every run keeps the laws; runs grow by calls, and every list of calls makes one.
 use Rattle.std.proofs.Common.{◌≡◌, List, [], ◌∷◌, ◌++◌, map, sym, refl, ap, ◌∙◌, subst}
-use Rattle.std.specs.List.{AllByRecursion as All}
+use Rattle.std.specs.List.{AllByRecursion}
 use Rattle.std.proofs.ByRecursion.{All-weaker}
 use Rattle.std.proofs.lemmas.List.{map-append}
 use Rattle.systems.specs.Model.{Model}
@@ -21,7 +21,7 @@ use Rattle.law.proofs.Progress.{progress, bounded}
 abbrev Good : Model → Event → Type 0
 Good M e = Agreed M e × (Sound M e.before × Sound M e.after)
 
-good : (M : Model) (l : Ledger) (es : List Event) → Sound M l → Run M l es → All (Good M) es
+good : (M : Model) (l : Ledger) (es : List Event) → Sound M l → Run M l es → AllByRecursion (Good M) es
 good M l [] w run = tt
 good M l (e ∷ es) w run =
     let after = after_sound M l e w run.0 run.1 in

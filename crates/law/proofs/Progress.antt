@@ -1,6 +1,6 @@
 -- Over an exact model a cause's slip can be split, and with as many groups as states no verdict is undecided.
 use Rattle.std.proofs.Common.{◌≡◌, ℕ, ◌<◌, ◌≤◌, false, List, [], ◌∷◌, ◌++◌, length, sym, ap, ◌∙◌, subst, inl, inr, arith}
-use Rattle.std.specs.List.{AllByRecursion as All}
+use Rattle.std.specs.List.{AllByRecursion}
 use Rattle.std.proofs.ByRecursion.{All-get_or}
 use Rattle.systems.specs.declared.kinds.Colour.TheVariants.{Undecided}
 use Rattle.systems.specs.Model.{Model, Exact}
@@ -29,7 +29,7 @@ use Rattle.law.proofs.Soundness.{few_groups}
 use Rattle.law.proofs.Causing.{explained}
 use Rattle.law.proofs.Histories.{run_front, run_back, after_both, run_sound, same_groups, kept, counted}
 
-last_of : (P : Position → Type 0) (p : Position) (ps : List Position) → All P (p ∷ ps) → P (last p ps)
+last_of : (P : Position → Type 0) (p : Position) (ps : List Position) → AllByRecursion P (p ∷ ps) → P (last p ps)
 last_of P p [] a = a.0
 last_of P p (q ∷ qs) a = last_of P q qs a.1
 

@@ -1,7 +1,7 @@
 -- The ledger's invariant: a new ledger has it, every call keeps it, and a split adds exactly one group.
 use Rattle.std.proofs.Common.{◌≡◌, ℕ, zero, suc, ◌+◌, ◌<◌, ◌≤◌, true, ◌⊎◌, List, [], ◌∷◌, length, replicate, sym, refl, ◌∙◌, subst, inl, inr, arith}
 use native.Mathlib.Decide.{ℕ_discrete}
-use Rattle.std.specs.List.{AllByRecursion as All}
+use Rattle.std.specs.List.{AllByRecursion}
 use Rattle.std.proofs.lemmas.List.{length-replicate}
 use Rattle.systems.specs.Model.{Model}
 use Rattle.rules.specs.declared.syntax.Clause.TheVariants.{Constant}
@@ -124,5 +124,5 @@ agreed_sound M l (split slip) reply r w (accepts h a) = record {
   some = subst (λ cs. 1 ≤ length cs) (sym a.1) w.some;
   few = subst (λ cs. length cs ≤ 64) (sym a.1) w.few;
   founded = subst WellFounded (sym a.1) w.founded;
-  known = subst (All (MarkBelow M.marks)) (sym a.1) w.known;
+  known = subst (AllByRecursion (MarkBelow M.marks)) (sym a.1) w.known;
 }

@@ -1,6 +1,6 @@
 -- The six calls, the conditions that each puts, and when a reply agrees with the ledger.
 use Rattle.std.specs.Prelude.{◌≡◌, ℕ, ◌<◌, ◌≤◌, ◌⊎◌, List, [], ◌∷◌, length, count_by, nat_eq}
-use Rattle.std.specs.List.{AllByRecursion as All}
+use Rattle.std.specs.List.{AllByRecursion}
 use Rattle.systems.specs.declared.kinds.Colour.{Colour}
 use Rattle.systems.specs.declared.kinds.Colour.TheVariants.{Undecided, F, T}
 use Rattle.systems.specs.declared.refusals.Refusal.{Refusal}
@@ -65,11 +65,11 @@ count_of v bytes = count_by (nat_eq (colour_number v)) bytes
 module _ (M : Model) (l : Ledger) where
   -- each workspace has a place for every position
   abbrev pub Roomy : List ℕ → Type 0
-  Roomy rooms = All (λ room. places M l ≤ room) rooms
+  Roomy rooms = AllByRecursion (λ room. places M l ≤ room) rooms
 
   -- the conditions of a call, in their order; their refusals have the numbers 12 to 19
   abbrev pub conditions : Call → List Condition
-  conditions (set_rule r) = condition MarkBeyondSystem (All (MarkBelow M.marks) (clause_list r)) ∷ []
+  conditions (set_rule r) = condition MarkBeyondSystem (AllByRecursion (MarkBelow M.marks) (clause_list r)) ∷ []
   conditions (regroup xs) = condition GroupList (OneForEach M.states xs) ∷ condition UnusedGroup (AllUsed xs) ∷ []
   conditions (judge board queue) = condition WorkspaceTooSmall (Roomy (board ∷ queue ∷ [])) ∷ []
   conditions (look board queue s c) =

@@ -1,6 +1,6 @@
 -- What holds of every run.
 use Rattle.std.specs.Prelude.{◌≡◌, ℕ, suc, ◌+◌, ◌<◌, ◌≤◌, ◌⊎◌, List, [], ◌∷◌, ◌++◌, map, length, slice_index}
-use Rattle.std.specs.List.{AllByRecursion as All}
+use Rattle.std.specs.List.{AllByRecursion}
 use Rattle.systems.specs.declared.kinds.Colour.{Colour}
 use Rattle.systems.specs.declared.kinds.Colour.TheVariants.{Undecided, F, T}
 use Rattle.systems.specs.declared.refusals.Refusal.TheVariants.{VerdictDecided}
@@ -117,7 +117,7 @@ pub record Progress (M : Model) (l : Ledger) (es : List Event) : Type 0 where
   -- a split by the slip of an accepted cause, with no accepted split or regroup between, is accepted
   pub goes_on : (first between rest : List Event) (e d : Event) → es ≡ first ++ (e ∷ (between ++ (d ∷ rest)))
       → (slip : Reason) (told : ℕ) (chain : List Position) → e.reply.answer ≡ caused slip told chain
-      → All Neither between → d.call ≡ split slip → d.reply.answer ≡ done
+      → AllByRecursion Neither between → d.call ≡ split slip → d.reply.answer ≡ done
   -- after N - G accepted splits from G groups, without regroup, no rule at all has an undecided verdict
   pub ends : (first between rest : List Event) (k : ℕ) → es ≡ first ++ (between ++ rest) → Splitting k between
       → k + group_count (ledger_after l first).groups ≡ M.states
@@ -125,10 +125,10 @@ pub record Progress (M : Model) (l : Ledger) (es : List Event) : Type 0 where
 
 -- the laws of a run from the ledger l
 pub record Laws (M : Model) (l : Ledger) (es : List Event) : Type 0 where
-  pub sound : All (λ e. Sound M e.before × Sound M e.after) es
-  pub truth : All (Truthful M) es
+  pub sound : AllByRecursion (λ e. Sound M e.before × Sound M e.after) es
+  pub truth : AllByRecursion (Truthful M) es
   pub no_contradiction : (e d : Event) → Among e es → Among d es → Compatible M e d
-  pub causes : All (Causes M) es
+  pub causes : AllByRecursion (Causes M) es
   pub bounded : Bounded M l es
   pub progress : Exact M → Progress M l es
 

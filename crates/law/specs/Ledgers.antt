@@ -1,6 +1,6 @@
 -- The ledger of a study: its rule, and the groups of its system's states. Colours and verdicts are the ledger's, on its groups.
 use Rattle.std.specs.Prelude.{◌≡◌, ℕ, ◌≤◌, true, List, [], ◌∷◌, length, replicate}
-use Rattle.std.specs.List.{AllByRecursion as All}
+use Rattle.std.specs.List.{AllByRecursion}
 use Rattle.systems.specs.declared.kinds.Colour.{Colour}
 use Rattle.systems.specs.Model.{Model}
 use Rattle.rules.specs.declared.syntax.Clause.{Clause}
@@ -26,7 +26,7 @@ pub record Sound (M : Model) (l : Ledger) : Type 0 where
   pub some : 1 ≤ length l.rule
   pub few : length l.rule ≤ 64
   pub founded : WellFounded l.rule
-  pub known : All (MarkBelow M.marks) l.rule
+  pub known : AllByRecursion (MarkBelow M.marks) l.rule
 
 -- M is the model of the study's system
 module _ (M : Model) (l : Ledger) where

@@ -1,6 +1,6 @@
 -- The list of a formula's clauses.
 use Rattle.std.proofs.Common.{◌≡◌, ℕ, zero, suc, ◌+◌, ◌-◌, ◌<◌, ◌≤◌, true, false, ltb, ◌⊎◌, List, [], ◌∷◌, ◌++◌, length, get_or, sym, refl, ap, ◌∙◌, subst, ap₂, inl, inr, zero-add, arith, length-append}
-use Rattle.std.specs.List.{AllByRecursion as All}
+use Rattle.std.specs.List.{AllByRecursion}
 use Rattle.std.proofs.ByRecursion.{All-append, All-push, All-get_or}
 use Rattle.std.proofs.lemmas.List.{get_or_append_left, get_or-append_right, get_or_push}
 use Rattle.std.proofs.lemmas.Bool.{cases_lt, lt-ltb, ltb-true, and_from, and_parts}
@@ -89,21 +89,21 @@ parts_numbered (Formula.pair o r q) n i l = by (place (size r) i) (λ l. parts_n
     by (further j e) f g = subst (λ x. PartsBelow (n + i) (at (numbered n (Formula.pair o r q)) x)) (sym e) (on_right j e (place (size q) j) (g j))
 
 -- the marks of a formula are those of its clauses
-marks_numbered : (m n : ℕ) (f : Formula) → MarksBelow m f → All (MarkBelow m) (numbered n f)
+marks_numbered : (m n : ℕ) (f : Formula) → MarksBelow m f → AllByRecursion (MarkBelow m) (numbered n f)
 marks_numbered m n (Formula.constant b) h = (tt, tt)
 marks_numbered m n (Formula.mark p negated) h = (h, tt)
 marks_numbered m n (Formula.next k r) h = All-push (MarkBelow m) (numbered n r) _ (marks_numbered m n r h) tt
 marks_numbered m n (Formula.pair o r q) h = All-append (MarkBelow m) (numbered n r) _ (marks_numbered m n r h.0) (All-push (MarkBelow m) (numbered (n + size r) q) _ (marks_numbered m (n + size r) q h.1) tt)
 
-all_left : {X : Type 0} (P : X → Type 0) (xs ys : List X) → All P (xs ++ ys) → All P xs
+all_left : {X : Type 0} (P : X → Type 0) (xs ys : List X) → AllByRecursion P (xs ++ ys) → AllByRecursion P xs
 all_left P [] ys a = tt
 all_left P (x ∷ xs) ys a = (a.0, all_left P xs ys a.1)
 
-all_right : {X : Type 0} (P : X → Type 0) (xs ys : List X) → All P (xs ++ ys) → All P ys
+all_right : {X : Type 0} (P : X → Type 0) (xs ys : List X) → AllByRecursion P (xs ++ ys) → AllByRecursion P ys
 all_right P [] ys a = a
 all_right P (x ∷ xs) ys a = all_right P xs ys a.1
 
-numbered_marks : (m n : ℕ) (f : Formula) → All (MarkBelow m) (numbered n f) → MarksBelow m f
+numbered_marks : (m n : ℕ) (f : Formula) → AllByRecursion (MarkBelow m) (numbered n f) → MarksBelow m f
 numbered_marks m n (Formula.constant b) a = tt
 numbered_marks m n (Formula.mark p negated) a = a.0
 numbered_marks m n (Formula.next k r) a = numbered_marks m n r (all_left (MarkBelow m) (numbered n r) _ a)
@@ -180,7 +180,7 @@ tree_marks n i part (Clause.Mark k negated) m p h = m
 tree_marks n i part (Clause.Next k r) m p h = h r p
 tree_marks n i part (Clause.Pair o r q) m p h = (h r p.0, h q p.1)
 
-unrolled_marks : (n depth : ℕ) (cs : List Clause) → WellFounded cs → All (MarkBelow n) cs → (i : ℕ) → i < length cs → i < depth → MarksBelow n (unrolled cs depth i)
+unrolled_marks : (n depth : ℕ) (cs : List Clause) → WellFounded cs → AllByRecursion (MarkBelow n) cs → (i : ℕ) → i < length cs → i < depth → MarksBelow n (unrolled cs depth i)
 unfolding unrolled
 unrolled_marks n zero cs w a i l d = absurd (omega arith)
 unrolled_marks n (suc depth) cs w a i l d =

@@ -1,6 +1,6 @@
 -- What holds of every rule, by its ghost field.
 use Rattle.std.proofs.Common.{◌≡◌, ℕ, ◌<◌, Bool, false, length, Decides, sym, subst, arith}
-use Rattle.std.specs.List.{AllByRecursion as All}
+use Rattle.std.specs.List.{AllByRecursion}
 use Rattle.std.proofs.ByRecursion.{All-get_or, All-from_get_or}
 use Rattle.std.proofs.lemmas.List.{length-take-le, get_or-take}
 use Rattle.rules.specs.declared.syntax.Clause.{Clause}
@@ -17,7 +17,7 @@ pub at_rule : (r : Rule) (i : ℕ) → i < r.count → at (clause_list r) i ≡ 
 at_rule r i l = get_or-take r.count r.clauses i (Clause.Constant false) l
 
 -- what a loop over the places has tested holds of the clauses
-pub tested : (r : Rule) (n k : ℕ) (b : Bool) → r.count ≡ k → Decides b ((i : ℕ) → i < k → MarkBelow n (at r.clauses i)) → Decides b (All (MarkBelow n) (clause_list r))
+pub tested : (r : Rule) (n k : ℕ) (b : Bool) → r.count ≡ k → Decides b ((i : ℕ) → i < k → MarkBelow n (at r.clauses i)) → Decides b (AllByRecursion (MarkBelow n) (clause_list r))
 tested r n k b e d = (
   (λ h. All-from_get_or (MarkBelow n) (clause_list r) (Clause.Constant false) (λ i l. let m : i < r.count = omega (arith, length_rule r) in subst (MarkBelow n) (sym (at_rule r i m)) (d.0 h i (omega arith)))),
   (λ h. d.1 (λ i l. let m : i < r.count = omega arith in subst (MarkBelow n) (at_rule r i m) (All-get_or (MarkBelow n) (clause_list r) i (Clause.Constant false) (omega (arith, length_rule r)) h))),

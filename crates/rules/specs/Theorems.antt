@@ -1,6 +1,6 @@
 -- What follows for rules and their texts.
 use Rattle.std.specs.Prelude.{◌≡◌, ℕ, ◌<◌, ◌≤◌, ◌↔◌, List, length, take, Ok, Err, codes, Result}
-use Rattle.std.specs.List.{AllByRecursion as All}
+use Rattle.std.specs.List.{AllByRecursion}
 use Rattle.systems.specs.declared.refusals.Refusal.TheVariants.{RuleLength, NotARule, NestingDepth, TooManyClauses}
 use Rattle.systems.specs.declared.refusals.Fault.{Fault}
 use Rattle.systems.specs.Faults.{without_place, at_place}
@@ -39,7 +39,7 @@ pub record SoundRule (r : Rule) : Type 0 where
   pub some : 1 ≤ length (clause_list r)
   pub few : length (clause_list r) ≤ 64
   pub founded : WellFounded (clause_list r)
-  pub marks : All (MarkBelow 16) (clause_list r)
+  pub marks : AllByRecursion (MarkBelow 16) (clause_list r)
 
 abbrev pub EveryRule : Type 0
 EveryRule = (r : Rule) → SoundRule r
@@ -54,11 +54,11 @@ ReadFormula = (text : List ℕ) (r : Rule) → (a : Accepted text r) → whole (
 
 -- the marks of a formula are those of its clauses
 abbrev pub MarksListed : Type 0
-MarksListed = (n : ℕ) (f : Formula) → MarksBelow n f ↔ All (MarkBelow n) (clauses f)
+MarksListed = (n : ℕ) (f : Formula) → MarksBelow n f ↔ AllByRecursion (MarkBelow n) (clauses f)
 
 -- and where the clauses' marks are below n, so are those of the formula of each clause
 abbrev pub MarksOfClauses : Type 0
-MarksOfClauses = (n : ℕ) (cs : List Clause) → WellFounded cs → All (MarkBelow n) cs → (i : ℕ) → i < length cs → MarksBelow n (formula cs i)
+MarksOfClauses = (n : ℕ) (cs : List Clause) → WellFounded cs → AllByRecursion (MarkBelow n) cs → (i : ℕ) → i < length cs → MarksBelow n (formula cs i)
 
 -- the text is refused at a place
 abbrev pub RefusedAt : List ℕ → ℕ → Type 0

@@ -1,6 +1,6 @@
 -- A search through the positions of a graph: breadth first, with a table that tells of each position seen the one before it.
 use Rattle.std.specs.Prelude.{◌≡◌, ℕ, zero, suc, ◌+◌, ◌*◌, ◌<◌, ◌≤◌, cond, ◌⊎◌, List, [], ◌∷◌, ◌++◌, length, is_some, Some, None, Option, slice_index_or, slice_set}
-use Rattle.std.specs.List.{AllByRecursion as All}
+use Rattle.std.specs.List.{AllByRecursion}
 use Rattle.systems.specs.Model.{Model}
 use Rattle.rules.specs.declared.syntax.Clause.{Clause}
 use Rattle.colours.specs.declared.chains.Position.{Position}
@@ -100,7 +100,7 @@ Known m table p = Inside m.groups m.clauses p × Seen m.clauses table p
 pub record Searching (m : Graph) (start : Position) (table : List (Option Position)) (waiting : List Link) : Type 0 where
   pub rooted : Rooted m.groups m.clauses start table
   pub led : Led m start table
-  pub known : All (λ l. Known m table l.at) waiting
+  pub known : AllByRecursion (λ l. Known m table l.at) waiting
   pub closed : (p : Position) → Known m table p → Waits p waiting ⊎ Done m table p
   pub fits : unseen (m.groups * m.clauses) table + length waiting ≤ m.groups * m.clauses
 
@@ -108,7 +108,7 @@ pub record Searching (m : Graph) (start : Position) (table : List (Option Positi
 pub record Spreading (m : Graph) (start from : Position) (k : ℕ) (table : List (Option Position)) (waiting : List Link) : Type 0 where
   pub rooted : Rooted m.groups m.clauses start table
   pub led : Led m start table
-  pub known : All (λ l. Known m table l.at) waiting
+  pub known : AllByRecursion (λ l. Known m table l.at) waiting
   pub here : Known m table from
   pub tried : Tried m table k from
   pub closed : (p : Position) → Known m table p → ¬ (place_of m.clauses p ≡ place_of m.clauses from) → Waits p waiting ⊎ Done m table p

@@ -1,6 +1,6 @@
 -- The way back from an end to the start, and the chain written in order.
 use Rattle.std.specs.Prelude.{◌≡◌, ℕ, suc, ◌+◌, ◌*◌, ◌<◌, ◌≤◌, List, ◌∷◌, ◌++◌, map, reverse, length, take, drop, Some, Option}
-use Rattle.std.specs.List.{AllByRecursion as All}
+use Rattle.std.specs.List.{AllByRecursion}
 use Rattle.colours.specs.declared.chains.Position.{Position}
 use Rattle.colours.specs.Walks.{Walk, last, Distinct}
 use Rattle.engine.specs.declared.links.Link.{Link}
@@ -30,9 +30,9 @@ pub record Tracing (G C : ℕ) (start end : Position) (table : List (Option Posi
   pub walk : Walk (StandsBefore C table) at rest
   pub ends : last at rest ≡ end
   pub seen : Seen C table at
-  pub inside : All (Inside G C) (at ∷ rest)
-  pub rising : All (λ p. rank (place_of C at) < rank (place_of C p)) rest
-  pub away : All (λ p. ¬ (place_of C p ≡ place_of C start)) rest
+  pub inside : AllByRecursion (Inside G C) (at ∷ rest)
+  pub rising : AllByRecursion (λ p. rank (place_of C at) < rank (place_of C p)) rest
+  pub away : AllByRecursion (λ p. ¬ (place_of C p ≡ place_of C start)) rest
   pub distinct : Distinct (at ∷ rest)
   pub are : map position_in kept ≡ reverse rest
   pub fits : rank (place_of C at) + length rest < G * C
@@ -42,8 +42,8 @@ pub record Traced (G C : ℕ) (start end : Position) (table : List (Option Posit
   pub rest : List Position
   pub walk : Walk (StandsBefore C table) start rest
   pub ends : last start rest ≡ end
-  pub inside : All (Inside G C) (start ∷ rest)
-  pub away : All (λ p. ¬ (place_of C p ≡ place_of C start)) rest
+  pub inside : AllByRecursion (Inside G C) (start ∷ rest)
+  pub away : AllByRecursion (λ p. ¬ (place_of C p ≡ place_of C start)) rest
   pub distinct : Distinct (start ∷ rest)
   pub are : map position_in kept ≡ reverse (start ∷ rest)
   pub fits : suc (length rest) ≤ G * C

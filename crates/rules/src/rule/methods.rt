@@ -1,6 +1,6 @@
 // What a rule answers about itself.
 ghost use Rattle.std.specs.Prelude.{◌≡◌, ◌≤◌, true, [], ◌∷◌, length, Decides};
-ghost use Rattle.std.specs.List.{AllByRecursion as All, slice_get};
+ghost use Rattle.std.specs.List.{AllByRecursion, slice_get};
 ghost use Rattle.rules.specs.declared.syntax.Clause.TheVariants.{Constant as constant_clause};
 ghost use Rattle.rules.specs.Clauses.{MarkBelow};
 ghost use Rattle.rules.specs.Rules.{clause_list};
@@ -51,7 +51,7 @@ impl Rule {
 
     // Whether every mark of the rule is below `marks`.
     pub fn marks_below(&self, marks: usize) -> bool
-        ensures { Decides result (All (MarkBelow marks) (clause_list self.now)) }
+        ensures { Decides result (AllByRecursion (MarkBelow marks) (clause_list self.now)) }
     {
         let mut all = true;
         for number in 0..self.count {
