@@ -23,6 +23,7 @@ impl<S: System> Grouping<S> {
     // All states of a system in group 0.
     pub fn whole(system: S) -> Grouping<S>
         ensures below { result.system ≡ system }
+        ensures fitting { groups_of result.members ≡ replicate (S.System.meaning system).states 0 }
         ensures groups { groups_at S.System.meaning result ≡ replicate (S.System.meaning system).states 0 }
     {
         let members = Membership::whole(system.states());
