@@ -1,7 +1,7 @@
 // Reading and writing one place of a column.
 ghost use Rattle.std.specs.Prelude.{◌≡◌, ◌/◌, ◌^◌, ◌<◌, length, slice_set};
 ghost use Rattle.systems.specs.Numbers.{colour_number};
-ghost use Rattle.colouring.specs.passes.Bytes.{flipped as flipped-of};
+ghost use Rattle.colouring.specs.passes.Bytes.{flipped as flipped_of};
 ghost use Rattle.colouring.specs.passes.Columns.{cell, column};
 
 use crate::columns::Columns;
@@ -21,7 +21,7 @@ pub(crate) fn read(columns: Columns, board: &[u8], clause: usize, state: usize) 
 // Writes the clause's colour at a state.
 pub(crate) fn write(columns: Columns, board: &mut [u8], state: usize, v: Colour)
     requires { cell columns columns.whole state < length board.old }
-    ensures { board.new ≡ slice_set board.old (cell columns columns.whole state) (colour_number (flipped-of columns.negated v)) }
+    ensures { board.new ≡ slice_set board.old (cell columns columns.whole state) (colour_number (flipped_of columns.negated v)) }
 {
     board[state * columns.clauses + columns.whole] = flipped(columns.negated, v).number();
 }

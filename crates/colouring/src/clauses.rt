@@ -9,7 +9,7 @@ ghost use Rattle.rules.specs.Rules.{clause_list};
 ghost use Rattle.colours.specs.Boards.{positions};
 ghost use Rattle.colouring.specs.Colouring.{Becomes};
 ghost use Rattle.colouring.specs.passes.Columns.{Fits, OnlyAt, OnlyColumn};
-ghost use Rattle.colouring.specs.passes.Clauses.{over_all, turned as turned-of, ShowsClause};
+ghost use Rattle.colouring.specs.passes.Clauses.{over_all, turned as turned_of, ShowsClause};
 
 use crate::columns::Columns;
 use crate::fall::fall;
@@ -31,7 +31,7 @@ fn over_all(quantifier: Quantifier) -> bool
 
 // Whether an operator is treated as &, E U or E V with T and F exchanged.
 fn turned(operator: Operator) -> bool
-    ensures { result ≡ turned-of operator }
+    ensures { result ≡ turned_of operator }
 {
     match operator {
         Operator::Or | Operator::AV | Operator::AU => true,
@@ -49,7 +49,7 @@ fn colour_pair(
 )
     requires fits { Fits columns board.old }
     requires states { columns.states ≡ (table_model table.now).states }
-    requires turned { columns.negated ≡ turned-of operator }
+    requires turned { columns.negated ≡ turned_of operator }
     requires place { 2 * columns.states ≤ room queue.old }
     ensures shown { ShowsClause (table_model table.now) columns.clauses columns.whole (Pair operator columns.left columns.right) board.old board.new }
     ensures only { OnlyColumn columns board.old board.new }

@@ -1,13 +1,13 @@
 // Colours in truth order, F lowest and T highest, and as bytes.
 ghost use Rattle.std.specs.Prelude.{◌≡◌, true, false, ◌≢◌};
-ghost use Rattle.colours.specs.Values.{join as join-of, meet as meet-of, rated as rated-of};
-ghost use Rattle.colouring.specs.passes.Bytes.{decode as decode-of, flipped as flipped-of};
+ghost use Rattle.colours.specs.Values.{join as join_of, meet as meet_of, rated as rated_of};
+ghost use Rattle.colouring.specs.passes.Bytes.{decode as decode_of, flipped as flipped_of};
 
 use systems::{Colour, Step};
 
 // How true it is that there is a step.
 pub(crate) fn rated(step: Step) -> Colour
-    ensures { result ≡ rated-of step }
+    ensures { result ≡ rated_of step }
 {
     match step {
         Step::Absent => Colour::F,
@@ -18,7 +18,7 @@ pub(crate) fn rated(step: Step) -> Colour
 
 // The truer of two colours.
 pub(crate) fn join(a: Colour, b: Colour) -> Colour
-    ensures { result ≡ join-of a b }
+    ensures { result ≡ join_of a b }
 {
     match (a, b) {
         (Colour::T, _) => Colour::T,
@@ -30,7 +30,7 @@ pub(crate) fn join(a: Colour, b: Colour) -> Colour
 
 // The less true of two colours.
 pub(crate) fn meet(a: Colour, b: Colour) -> Colour
-    ensures { result ≡ meet-of a b }
+    ensures { result ≡ meet_of a b }
 {
     match (a, b) {
         (Colour::F, _) => Colour::F,
@@ -42,7 +42,7 @@ pub(crate) fn meet(a: Colour, b: Colour) -> Colour
 
 // T and F exchanged, or not.
 pub(crate) fn flipped(negated: bool, c: Colour) -> Colour
-    ensures { result ≡ flipped-of negated c }
+    ensures { result ≡ flipped_of negated c }
 {
     if negated {
         match c {
@@ -69,7 +69,7 @@ pub(crate) fn same(a: Colour, b: Colour) -> bool
 
 // The colour that a byte stands for; a byte that stands for none counts as undecided.
 pub(crate) fn decode(byte: u8) -> Colour
-    ensures { result ≡ decode-of byte }
+    ensures { result ≡ decode_of byte }
 {
     if byte == 2 {
         Colour::T

@@ -1,5 +1,5 @@
 // A clause as it is shown, its parts by their numbers: `1`, `!p3`, `AX #0`, `(#0 & #1)`, `A(#0 U #1)`.
-ghost use Rattle.std.specs.Prelude.{◌≡◌, Some as some-text};
+ghost use Rattle.std.specs.Prelude.{◌≡◌, Some as some_text};
 ghost use Rattle.rules.specs.Grammar.{letter, opening, between};
 ghost use Rattle.rules.specs.Texts.{clause_text};
 
@@ -48,7 +48,7 @@ impl Operator {
 }
 
 impl fmt::Display for Clause {
-    ghost output = { λ c. some-text (clause_text c) };
+    ghost output = { λ c. some_text (clause_text c) };
 
     fn fmt<W: fmt::Write>(&self, f: &mut fmt::Formatter<W>) -> fmt::Result {
         match *self {
