@@ -10,15 +10,6 @@ pub struct Slip {
     reason: Reason,
 }
 
-// No program meets this condition, so none is proved in which a slip goes out of use.
-impl Drop for Slip {
-    fn drop(self)
-        requires { ⊥ }
-    {
-        let Slip { reason: _ } = self;
-    }
-}
-
 impl Slip {
     pub(crate) fn of(reason: Reason) -> Slip
         ensures { result.reason ≡ reason }

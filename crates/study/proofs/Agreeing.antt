@@ -82,6 +82,9 @@ module _ (M L : Model) (cs : List Clause) (a : Agree M L) (founded : WellFounded
   alike : (i s : ℕ) → i < length cs → s < M.states → colour_of M (formula cs i) s ≡ colour_of L (formula cs i) s
   alike i s k b = (agreeing_models_colour_alike M L a (formula cs i) (marks_of_clauses M.marks cs founded known i k)).0 s b
 
+  pub colour_agrees : (i s : ℕ) → i < length cs → s < M.states → colour_of M (formula cs i) s ≡ colour_of L (formula cs i) s
+  colour_agrees = alike
+
   pub coloured_agrees : (b : List ℕ) → Coloured L cs b → Coloured M cs b
   coloured_agrees b h = record {
     fits = rw (positions_agree M L cs a) h.fits;
