@@ -28,7 +28,7 @@ use Rattle.queue.specs.Held.{room}
 use Rattle.colouring.specs.Boards.{times}
 use Rattle.colouring.specs.Colouring.{Colours}
 use Rattle.engine.specs.declared.links.Link.{Link}
-use Rattle.engine.specs.Causes.{WorkspacesFit, CauseStands, CauseTold, Sought}
+use Rattle.engine.specs.Causes.{CauseStands, CauseTold, Sought}
 use Rattle.law.specs.Ledgers.{Ledger, model, places, verdict, colour_at_state, ColouredBytes}
 use Rattle.law.specs.Calls.{Call, set_rule, regroup, judge, look, cause, split, refused, done, judged, looked, caused, Reply, count_of, Roomy, FirstFailing, conditions, Agrees, accepts, refuses}
 use Rattle.study.specs.Studies.{clauses_for, plain_reply, standing, ColouredOnly, Untouched}
@@ -207,7 +207,7 @@ module _ (M : Model) (l : Ledger) (N : Model) (p : Prepared M l N) where
       judge_done v t f o is x y z =
           let bytes = take (places M l) b' in
           let counted : (k : ℕ) → times k N l.rule b' ≡ count_by (nat_eq k) bytes
-              = λ k. ap (λ (n : ℕ). count_by (nat_eq k) (take n b')) same_places in
+          = λ k. ap (λ (n : ℕ). count_by (nat_eq k) (take n b')) same_places in
           let v-is : v ≡ verdict M l = is coloured ∙ verdict_same in
           let t-is : t ≡ count_of T bytes = x ∙ counted 2 in
           let f-is : f ≡ count_of F bytes = y ∙ counted 1 in
@@ -220,9 +220,9 @@ module _ (M : Model) (l : Ledger) (N : Model) (p : Prepared M l N) where
       look_done s c g v low part here few is =
           let told : Some v ≡ Some (colour_of N (formula l.rule c) g) = is coloured (subst (λ (n : ℕ). g < n) p.agree.states few) part in
           let same : colour_of (model M l) (formula l.rule c) g ≡ colour_of N (formula l.rule c) g
-              = colour_agrees (model M l) N l.rule p.agree p.founded p.known c g part few in
+          = colour_agrees (model M l) N l.rule p.agree p.founded p.known c g part few in
           let back : colour_at_state M l s c ≡ colour_of (model M l) (formula l.rule c) g
-              = ap (λ (x : ℕ). colour_of (model M l) (formula l.rule c) x) (sym here) in
+          = ap (λ (x : ℕ). colour_of (model M l) (formula l.rule c) x) (sym here) in
           let v-is : v ≡ colour_at_state M l s c = cc in
           accepts ((roomy.0, (roomy.1, tt)), ((low, part), tt)) (coloured_bytes b' coloured, refl, ap looked v-is)
 
@@ -252,8 +252,13 @@ module _ (M : Model) (l : Ledger) (N : Model) (p : Prepared M l N) where
             accepts (all_roomy, (same, tt)) (
               coloured_bytes b' coloured,
               refl,
-              (reason, told.first, told.rest, ap₂ (λ (n : ℕ) (ps : List Position). caused reason n ps) long-is stand,
-              cause_agrees (model M l) N l.rule p.agree p.founded p.known told.first told.rest reason told.cause),
+              (
+                reason,
+                told.first,
+                told.rest,
+                ap₂ (λ (n : ℕ) (ps : List Position). caused reason n ps) long-is stand,
+                cause_agrees (model M l) N l.rule p.agree p.founded p.known told.first told.rest reason told.cause,
+              ),
             )
 
       -- a cause is found

@@ -4,8 +4,8 @@ ghost use Rattle.std.specs.Prelude.{◌≡◌};
 use colours::Reason;
 
 // What leaves a rule undecided: a group with an unknown mark or with the target of an unsure step. Only
-// `cause` makes one, and only a split or `file` uses it up. It may not be let go: whoever asked what is
-// missing has to settle it.
+// `cause` makes one, and only a split or `file` uses it up. It has no Drop, so it may not be let go: whoever
+// asked what is missing has to settle it.
 pub struct Slip {
     reason: Reason,
 }

@@ -1,18 +1,16 @@
-use Rattle.std.proofs.Common.{◌≡◌, ℕ, ◌*◌, ◌<◌, ◌≤◌, ◌⊎◌, List, [], take, length, Some, None, sym, refl, ap, ◌∙◌, ap₂, subst, subst₂, inl, inr, arith}
+use Rattle.std.proofs.Common.{◌≡◌, ℕ, ◌*◌, ◌<◌, ◌≤◌, List, [], take, length, sym, refl, ◌∙◌, ap₂, subst, subst₂, inl, inr}
 use Rattle.std.proofs.lemmas.Result.{err_from_is_err_and}
 use Rattle.systems.specs.Written.{table_model}
-use Rattle.systems.specs.declared.refusals.Refusal.TheVariants.{WorkspaceTooSmall, NoSuchPosition, VerdictDecided}
+use Rattle.systems.specs.declared.refusals.Refusal.TheVariants.{WorkspaceTooSmall, VerdictDecided}
 use Rattle.rules.specs.declared.syntax.Clause.{Clause}
 use Rattle.rules.specs.Rules.{clause_list}
 use Rattle.queue.specs.Held.{room}
 use Rattle.groupings.specs.Grouped.{groups_at}
-use Rattle.groupings.specs.Members.{group_of, group_count}
-use Rattle.groupings.specs.laws.GroupLaws.{fitted_partition}
 use Rattle.engine.specs.Causes.{CauseTold}
 use Rattle.law.specs.Ledgers.{places}
-use Rattle.law.specs.Calls.{judge, look, cause, refused, judged, looked, caused}
-use Rattle.study.specs.Studies.{ledger, standing, ColouredOnly, Untouched}
-use Rattle.study.proofs.Replying.{ruled, carried, prepared, same_places, refused_small, coloured, coloured_only, judge_refused, judge_done, look_small, look_nowhere, look_refused, look_done, look_some, cause_narrow, cause_refused, cause_decided, cause_done, found, is_undecided, is_decided, stands_alone}
+use Rattle.law.specs.Calls.{cause, refused, caused}
+use Rattle.study.specs.Studies.{ledger, standing, ColouredOnly}
+use Rattle.study.proofs.Replying.{ruled, carried, prepared, same_places, refused_small, coloured_only, cause_narrow, cause_refused, cause_decided, cause_done, found, is_undecided, is_decided, stands_alone}
 use Rattle.study.proofs.study.Study.cause.Goals.{then-capacity-positions-via-then-capacity-positions, then-capacity-positions-via-else-capacity-positions+then-chain-positions}
 use Rattle.study.proofs.study.Study.cause.Goals as goal
 
@@ -103,8 +101,11 @@ returns-then-ne-clause-lent g c =
     let p = prepared M groups N c.fitted_rule-rule.result c.write_out-table.ensures c.fitted_rule-rule.ensures.known in
     let is = c.fitted_rule-rule.ensures.is in
     let rule = (ledger meaning self).rule in
-    inl (refl, subst (λ (r : List Clause). ColouredOnly (places M (ruled groups r)) c.args.board.now c.args.queue.now c.colour.new.board c.colour.new.queue) is
-    (coloured_only M l N p c.args.board.now c.args.queue.now c.colour.new.board c.colour.new.queue tt c.in_ok-colour.ensures))
+    inl (
+      refl,
+      subst (λ (r : List Clause). ColouredOnly (places M (ruled groups r)) c.args.board.now c.args.queue.now c.colour.new.board c.colour.new.queue) is
+          (coloured_only M l N p c.args.board.now c.args.queue.now c.colour.new.board c.colour.new.queue tt c.in_ok-colour.ensures),
+    )
 
 pub unreachable-requires : goal.unreachable-requires
 unreachable-requires g c =

@@ -1,18 +1,17 @@
-use Rattle.std.proofs.Common.{◌≡◌, ℕ, ◌*◌, ◌<◌, ◌≤◌, ◌⊎◌, List, [], take, length, Some, None, sym, refl, ap, ◌∙◌, ap₂, subst, subst₂, inl, inr, arith}
+use Rattle.std.proofs.Common.{◌≡◌, ℕ, ◌*◌, ◌<◌, ◌≤◌, List, [], take, length, ap, ◌∙◌, ap₂, subst, subst₂, inl, inr, arith}
 use Rattle.std.proofs.lemmas.Result.{err_from_is_err_and}
 use Rattle.systems.specs.Written.{table_model}
-use Rattle.systems.specs.declared.refusals.Refusal.TheVariants.{WorkspaceTooSmall, NoSuchPosition, VerdictDecided}
+use Rattle.systems.specs.declared.refusals.Refusal.TheVariants.{WorkspaceTooSmall, NoSuchPosition}
 use Rattle.rules.specs.declared.syntax.Clause.{Clause}
 use Rattle.rules.specs.Rules.{clause_list}
 use Rattle.queue.specs.Held.{room}
 use Rattle.groupings.specs.Grouped.{groups_at}
 use Rattle.groupings.specs.Members.{group_of, group_count}
 use Rattle.groupings.specs.laws.GroupLaws.{fitted_partition}
-use Rattle.engine.specs.Causes.{CauseTold}
 use Rattle.law.specs.Ledgers.{places}
-use Rattle.law.specs.Calls.{judge, look, cause, refused, judged, looked, caused}
-use Rattle.study.specs.Studies.{ledger, standing, ColouredOnly, Untouched}
-use Rattle.study.proofs.Replying.{ruled, carried, prepared, same_places, refused_small, coloured, coloured_only, judge_refused, judge_done, look_small, look_nowhere, look_refused, look_done, look_some, cause_narrow, cause_refused, cause_decided, cause_done, found, is_undecided, is_decided, stands_alone}
+use Rattle.law.specs.Calls.{look, refused, looked}
+use Rattle.study.specs.Studies.{ledger, ColouredOnly}
+use Rattle.study.proofs.Replying.{ruled, carried, prepared, same_places, refused_small, coloured_only, look_small, look_nowhere, look_refused, look_done, look_some}
 use Rattle.study.proofs.study.Study.look.Goals.{then-board-positions-via-then-board-positions, then-board-positions-via-else-board-positions+then-capacity-positions, then-state-states-via-then-state-states, then-state-states-via-else-state-states+then-clause-count}
 use Rattle.study.proofs.study.Study.look.Goals as goal
 

@@ -1,7 +1,5 @@
 use Rattle.std.proofs.Common.{ap}
-use Rattle.systems.specs.Model.{Model}
 use Rattle.groupings.specs.Grouped.{groups_at}
-use Rattle.groupings.specs.declared.groups.Grouping.{Grouping}
 use Rattle.study.specs.Studies.{clauses_for}
 use Rattle.study.proofs.Replying.{ruled, regrouped}
 use Rattle.study.proofs.study.Study.regroup.Goals as goal

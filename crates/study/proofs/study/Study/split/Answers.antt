@@ -1,5 +1,4 @@
 use Rattle.std.proofs.Common.{[], sym, subst}
-use Rattle.groupings.specs.Grouped.{groups_at}
 use Rattle.groupings.specs.Splits.{RefusedSplit}
 use Rattle.law.specs.Calls.{Agrees, split, refused}
 use Rattle.study.specs.Studies.{ledger}
