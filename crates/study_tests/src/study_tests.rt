@@ -83,6 +83,14 @@ fn splits_until_decided(rt: HostRuntime) -> Result<(), Fail> {
     Ok(())
 }
 
+// The number of a refusal, or 0.
+fn number<A: Drop>(answer: Result<A, Refusal>) -> u8 {
+    match answer {
+        Ok(_) => 0,
+        Err(refusal) => refusal.number(),
+    }
+}
+
 #[test]
 fn refuses(rt: HostRuntime) -> Result<(), Fail> {
     let mut study = Study::new(three_states()?);
@@ -90,11 +98,11 @@ fn refuses(rt: HostRuntime) -> Result<(), Fail> {
     let mut slots = [0usize; 1];
     let mut queue = Ring::new(&mut slots);
     assert_eq!(rt; study.look(2, 0, &mut board, &mut queue)?.number(), 2);
-    assert!(rt; study.look(3, 0, &mut board, &mut queue).is_err());
-    assert!(rt; study.look(2, 1, &mut board, &mut queue).is_err());
-    assert!(rt; study.set_rule(read(b"p1")?).is_err());
-    assert!(rt; study.regroup(&[0, 2, 0]).is_err());
+    assert_eq!(rt; number(study.look(3, 0, &mut board, &mut queue)), 16);
+    assert_eq!(rt; number(study.look(2, 1, &mut board, &mut queue)), 16);
+    assert_eq!(rt; number(study.set_rule(read(b"p1")?)), 12);
+    assert_eq!(rt; number(study.regroup(&[0, 2, 0])), 14);
     study.regroup(&[1, 0, 1])?;
-    assert!(rt; study.judge(&mut board, &mut queue).is_err());
+    assert_eq!(rt; number(study.judge(&mut board, &mut queue)), 15);
     Ok(())
 }
