@@ -1,9 +1,13 @@
 pub mod Placing
+pub mod Loans
 pub mod Heights
 pub mod Raises
 pub mod Rises
+pub mod Climbs
 pub mod Falls
 pub mod Looks
+pub mod Descents
 pub mod Turned
 pub mod Stages
+pub mod Folds
 pub mod Reading

@@ -1,7 +1,11 @@
 -- A look at one state of a board that falls.
-use Rattle.std.proofs.Common.{◌≡◌, ℕ, ◌+◌, ◌<◌, ◌≤◌, List, [], ◌∷◌, ◌++◌, length, get_or, set, sym, refl, ap, ◌∙◌, subst, arith, get_or-set_other, get_or-set_same}
+use Rattle.std.proofs.Common.{◌≡◌, ℕ, ◌+◌, ◌<◌, ◌≤◌, List, [], ◌∷◌, ◌++◌, length, get_or, set, Ok, Err, Result, sym, refl, ap, ◌∙◌, subst, arith, get_or-set_other, get_or-set_same}
 use native.Mathlib.Decide.{dec_lt}
 use Rattle.std.proofs.lemmas.List.{length_push}
+use Rattle.std.specs.Result.{IsOk}
+use Rattle.systems.specs.declared.refusals.Refusal.{Refusal}
+use Rattle.queue.specs.declared.ring.Ring.{Ring}
+use Rattle.queue.specs.Held.{held, room, Pushed}
 use Rattle.systems.specs.declared.kinds.Colour.{Colour}
 use Rattle.systems.specs.declared.kinds.Colour.TheVariants.{Undecided, F, T}
 use Rattle.systems.specs.Model.{Model}
@@ -51,6 +55,16 @@ module _ (p : Columns) (M : Model) (b h w k : List ℕ) (s : ℕ) (fit : Fits p 
             (λ j d. ap (λ z. get_or z j 0) eb ∙ get_or-set_other b (cell p p.whole s) j _ 0 d) eh ew ek no_r no_u;
         sum = omega arith;
       }
+
+  -- it waits, as the queue has room for all that may yet have to
+  pub looked_pushed : ¬ Within (column p b p.whole s) (column p b p.left s) → ((u : ℕ) → u < M.states → ¬ Upheld M (column p b p.whole) s u)
+      → (b' w' k' : List ℕ) (q q' : Ring ℕ) (x : ℕ) (r : Result (Unit {0}) Refusal)
+      → h ≡ held q → b' ≡ lowered → x ≡ cell p p.whole s → w' ≡ set w s s → k' ≡ set k s 0 → length h + left_below p b ≤ room q → Pushed q x q' r
+      → IsOk r × (room q' ≡ room q) × Looked p M b b' h (held q') w w' k k' s × (length (held q') + left_below p b' ≤ room q')
+  looked_pushed no_r no_u b' w' k' q q' x (Ok t) same e at ew ek fits pushed =
+      let looked = looked_fell no_r no_u b' (held q') w' k' e (pushed.1 ∙ ap (λ z. held q ++ z ∷ []) at ∙ ap (λ z. z ++ cell p p.whole s ∷ []) (sym same)) ew ek in
+      (refl, pushed.2, looked, omega (arith, looked.sum, pushed.2))
+  looked_pushed no_r no_u b' w' k' q q' x (Err e) same i at ew ek fits pushed = let left = room_below no_r in absurd (omega (arith, pushed.0, ap length same))
 
 module _ (p : Columns) (M : Model) (b h w k : List ℕ) (s : ℕ) where
   pub looked_upheld : (u : ℕ) → u < M.states → Upheld M (column p b p.whole) s u → ((v : ℕ) → v < u → ¬ Upheld M (column p b p.whole) s v)

@@ -1,5 +1,5 @@
 -- The cells of a board's columns.
-use Rattle.std.proofs.Common.{◌≡◌, ℕ, ◌+◌, ◌*◌, ◌/◌, ◌%◌, ◌<◌, ◌≤◌, Bool, true, false, ◌≢◌, List, length, get_or, set, sym, refl, ap, ◌∙◌, subst, not-suc-le-zero, arith, get_or-set_other, get_or-set_same}
+use Rattle.std.proofs.Common.{◌≡◌, ℕ, ◌+◌, ◌/◌, ◌%◌, ◌<◌, ◌≤◌, Bool, true, false, ◌≢◌, List, length, get_or, set, sym, refl, ap, ◌∙◌, subst, arith, get_or-set_other, get_or-set_same}
 use native.Mathlib.Decide.{ℕ_discrete}
 use lib.Arith.{digits_lt, digits_div, digits_mod}
 use Rattle.systems.specs.declared.kinds.Colour.{Colour}
@@ -7,7 +7,7 @@ use Rattle.systems.specs.declared.kinds.Colour.TheVariants.{Undecided, F, T}
 use Rattle.colouring.specs.declared.columns.Columns.{Columns}
 use Rattle.systems.specs.Numbers.{colour_number}
 use Rattle.colouring.specs.passes.Bytes.{decode, flipped}
-use Rattle.colouring.specs.passes.Columns.{cell, column, Lies, Fits, OnlyAt, OnlyColumn, Clean, Written}
+use Rattle.colouring.specs.passes.Columns.{cell, column, Lies, Fits, OnlyColumn, Clean, Written}
 
 pub number_decodes : (f : Bool) (v : Colour) → flipped f (decode (colour_number (flipped f v))) ≡ v
 number_decodes true Undecided = refl
@@ -59,12 +59,6 @@ module _ (p : Columns) where
   pub fits_same : (b b' : List ℕ) → length b' ≡ length b → Fits p b → Fits p b'
   fits_same b b' e fit = record { board = omega (arith, fit.board); order = fit.order }
 
-  pub fits_from : (b : List ℕ) (n : ℕ) → p.states ≡ n → n * p.clauses ≤ length b → p.left < p.whole → p.right < p.whole → p.whole < p.clauses → Fits p b
-  fits_from b n e h l r w = record { board = subst (λ z. z * p.clauses ≤ length b) (sym e) h; order = record { whole = w; left = l; right = r } }
-
-  pub only_as : (b b' : List ℕ) (n : ℕ) → p.states ≡ n → OnlyColumn p b b' → OnlyAt n p.clauses p.whole b b'
-  only_as b b' n e only = subst (λ z. OnlyAt z p.clauses p.whole b b') e only
-
   -- one byte of the clause's column is written
   pub only_more : (b₀ b : List ℕ) (s : ℕ) (n : ℕ) → s < p.states → OnlyColumn p b₀ b → OnlyColumn p b₀ (set b (cell p p.whole s) n)
   only_more b₀ b s n h only k d = get_or-set_other b (cell p p.whole s) k n 0 (d s h) ∙ only k d
@@ -72,9 +66,6 @@ module _ (p : Columns) where
   -- the colours f are written at the states below s
   abbrev pub Filled : List ℕ → (ℕ → Colour) → ℕ → List ℕ → Type 0
   Filled b₀ f s b = OnlyColumn p b₀ b × ((t : ℕ) → t < s → get_or b (cell p p.whole t) 0 ≡ colour_number (flipped p.negated (f t)))
-
-  pub filled_none : (b₀ : List ℕ) (f : ℕ → Colour) → Filled b₀ f 0 b₀
-  filled_none b₀ f = (λ k d. refl, λ t h. absurd (not-suc-le-zero h))
 
   pub filled_more : (b₀ b b' : List ℕ) (f : ℕ → Colour) (s : ℕ) (v : Colour) → Lies p b → s < p.states → v ≡ f s
       → b' ≡ set b (cell p p.whole s) (colour_number (flipped p.negated v)) → Filled b₀ f s b → Filled b₀ f (s + 1) b'

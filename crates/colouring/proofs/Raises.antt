@@ -1,6 +1,10 @@
 -- One colour raised.
-use Rattle.std.proofs.Common.{◌≡◌, ℕ, ◌+◌, ◌<◌, ◌≤◌, ◌≢◌, List, [], ◌∷◌, ◌++◌, length, get_or, set, sym, ap, ◌∙◌, subst, inl, inr, arith, get_or-set_other, get_or-set_same}
+use Rattle.std.proofs.Common.{◌≡◌, ℕ, ◌+◌, ◌<◌, ◌≤◌, ◌≢◌, List, [], ◌∷◌, ◌++◌, length, get_or, set, sym, refl, ap, ◌∙◌, subst, inr, Ok, Err, Result, arith, get_or-set_other, get_or-set_same}
 use Rattle.std.proofs.lemmas.List.{length_push}
+use Rattle.std.specs.Result.{IsOk}
+use Rattle.systems.specs.declared.refusals.Refusal.{Refusal}
+use Rattle.queue.specs.declared.ring.Ring.{Ring}
+use Rattle.queue.specs.Held.{held, room, Pushed}
 use Rattle.systems.specs.declared.kinds.Colour.{Colour}
 use Rattle.colours.specs.Values.{join}
 use Rattle.colouring.specs.declared.columns.Columns.{Columns}
@@ -42,14 +46,11 @@ module _ (p : Columns) (b h : List ℕ) (s : ℕ) (v new : Colour) (fit : Fits p
         sum = omega arith;
       }
 
-  pub raised_not : new ≡ column p b p.whole s → (b' h' : List ℕ) → b' ≡ b → h' ≡ h → Raised p b b' h h' s v
-  raised_not n b' h' e k =
-      let i = ap length k in
-      let j = ap (left_above p) e in
-      record {
-        new = ap (λ z. column p z p.whole s) e ∙ sym n ∙ is;
-        byte = subst (λ z. get_or z (cell p p.whole s) 0 ≤ 2) (sym e);
-        others = λ j d. ap (λ z. get_or z j 0) e;
-        queue = inl (e, k);
-        sum = omega arith;
-      }
+  -- it waits, as the queue has room for all that may yet have to
+  pub raised_pushed : new ≢ column p b p.whole s → (b' : List ℕ) (q q' : Ring ℕ) (x : ℕ) (r : Result (Unit {0}) Refusal)
+      → h ≡ held q → b' ≡ written → x ≡ cell p p.whole s → length h + left_above p b ≤ room q → Pushed q x q' r
+      → IsOk r × (room q' ≡ room q) × Raised p b b' h (held q') s v × (length (held q') + left_above p b' ≤ room q')
+  raised_pushed n b' q q' x (Ok t) same e at fits pushed =
+      let raised = raised_more n b' (held q') e (pushed.1 ∙ ap (λ z. held q ++ z ∷ []) at ∙ ap (λ z. z ++ cell p p.whole s ∷ []) (sym same)) in
+      (refl, pushed.2, raised, omega (arith, raised.sum, pushed.2))
+  raised_pushed n b' q q' x (Err e) same i at fits pushed = let left = room_left n in absurd (omega (arith, pushed.0, ap length same))

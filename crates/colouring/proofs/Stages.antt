@@ -1,6 +1,7 @@
 -- A board coloured clause by clause.
 use Rattle.std.proofs.Common.{◌≡◌, ℕ, ◌+◌, ◌%◌, ◌<◌, ◌≤◌, false, ◌⊎◌, List, length, get_or, Ok, Err, sym, refl, ap, ◌∙◌, subst, not-suc-le-zero, arith}
 use native.Mathlib.Decide.{ℕ_discrete}
+use mathlib.Core.Path.{subst₃}
 use lib.Arith.{digits_lt, digits_mod}
 use Rattle.std.specs.List.{AllByRecursion}
 use Rattle.std.proofs.ByRecursion.{All-get_or}
@@ -15,7 +16,8 @@ use Rattle.colours.proofs.Numbered.{formula_tree}
 use Rattle.queue.specs.declared.ring.Ring.{Ring}
 use Rattle.queue.specs.Held.{room}
 use Rattle.colouring.specs.Colouring.{Becomes, Colours}
-use Rattle.colouring.specs.passes.Columns.{OnlyAt}
+use Rattle.colouring.specs.declared.columns.Columns.{Columns}
+use Rattle.colouring.specs.passes.Columns.{model, OnlyAt, OnlyColumn}
 use Rattle.colouring.specs.passes.Clauses.{ShowsRule, ShowsClause}
 
 module _ (M : Model) (cs : List Clause) (b₀ : List ℕ) where
@@ -52,6 +54,15 @@ module _ (M : Model) (cs : List Clause) (b₀ : List ℕ) where
     beyond = done.1;
     long = long;
   }
+
+-- what was written into a clause's columns, by the number that it has in the rule
+module _ (M : Model) (cs : List Clause) (p : Columns) (i : ℕ) (same : model p ≡ M) (clauses : p.clauses ≡ length cs) (whole : p.whole ≡ i) (b b' : List ℕ) where
+  pub shown_as : (clause z : Clause) → clause ≡ z → ShowsClause (model p) p.clauses p.whole clause b b' → ShowsClause M (length cs) i z b b'
+  shown_as clause z e shown =
+      subst (λ z. ShowsClause M (length cs) i z b b') e (subst₃ (λ m w c. ShowsClause m w c clause b b') same clauses whole shown)
+
+  pub only_as : OnlyColumn p b b' → OnlyAt M.states (length cs) i b b'
+  only_as only = subst₃ (λ n w c. OnlyAt n w c b b') (p.every_state ∙ ap (λ (m : Model). m.states) same) clauses whole only
 
 -- what a call to colour comes to
 module _ (M : Model) (cs : List Clause) (b : List ℕ) (q : Ring ℕ) where

@@ -2,5 +2,8 @@
 pub mod Bytes
 pub mod Columns
 pub mod Clauses
+pub mod Loans
 pub mod Rising
+pub mod RisingColumns
 pub mod Falling
+pub mod FallingColumns

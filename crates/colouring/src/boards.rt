@@ -1,5 +1,5 @@
 // What a board says.
-ghost use Rattle.std.specs.Prelude.{◌≡◌, ◌<◌, ◌≤◌, length, take, Some, count_by, nat_eq, slice_index};
+ghost use Rattle.std.specs.Prelude.{◌≡◌, ◌<◌, length, Some, count_by, nat_eq};
 ghost use Rattle.systems.specs.Written.{table_model};
 ghost use Rattle.rules.specs.Clauses.{formula, whole};
 ghost use Rattle.rules.specs.Rules.{clause_list};
@@ -7,7 +7,6 @@ ghost use Rattle.colours.specs.Boards.{Coloured};
 ghost use Rattle.colours.specs.Values.{colour_of, verdict_of};
 ghost use Rattle.colouring.specs.Boards.{told_at, verdict_on, colour_on, times};
 
-use crate::asking::start_of;
 use crate::truth::{decode, meet};
 use rules::Rule;
 use systems::{Colour, System, Table};
@@ -20,23 +19,17 @@ pub struct Tally {
     pub undecided: usize,
 }
 
-// A byte of a board, 0 beyond its end.
-fn byte_at(board: &[u8], place: usize) -> u8
-    ensures { result ≡ slice_index board.now place }
-{
-    if place < board.len() { board[place] } else { 0 }
-}
-
 // What the rule's own column says at a start, and T elsewhere.
 fn told_at(table: &Table, rule: &Rule, board: &[u8], state: usize) -> Colour
     requires { state < (table_model table.now).states }
     ensures { result ≡ told_at (table_model table.now) (clause_list rule.now) board.now state }
 {
-    if !start_of(table, state) {
+    if !table.is_start(state) {
         return Colour::T;
     }
     let clauses = rule.count();
-    decode(byte_at(board, state * clauses + (clauses - 1)))
+    let place = state * clauses + (clauses - 1);
+    decode(board.get(place).copied().unwrap_or(0))
 }
 
 // T if the rule is T at all starts, F if it is F at one, else undecided: one look at each state. A byte
@@ -45,12 +38,9 @@ pub fn verdict(table: &Table, rule: &Rule, board: &[u8]) -> Colour
     ensures read { result ≡ verdict_on (table_model table.now) (clause_list rule.now) board.now }
     ensures verdict { Coloured (table_model table.now) (clause_list rule.now) board.now → result ≡ verdict_of (table_model table.now) (whole (clause_list rule.now)) }
 {
-    let mut all = Colour::T;
-    for state in 0..table.states() {
-        let here = told_at(table, rule, board, state);
-        all = meet(all, here);
-    }
-    all
+    (0..table.states())
+        .map(|state| told_at(table, rule, board, state))
+        .fold(Colour::T, meet)
 }
 
 // The colour of a clause at a state; none where there is no such state or clause, or the board has no
@@ -69,10 +59,8 @@ pub fn colour_at(
         return None;
     }
     let place = state * rule.count() + clause;
-    if place >= board.len() {
-        return None;
-    }
-    Colour::from_byte(board[place])
+    let byte = *board.get(place)?;
+    Colour::try_from(byte).ok()
 }
 
 // How many of the first G × C bytes of a board are 2, 1 and 0: one look at each.
@@ -82,28 +70,17 @@ pub fn count_positions(table: &Table, rule: &Rule, board: &[u8]) -> Tally
     ensures undecided { result.undecided ≡ times 0 (table_model table.now) (clause_list rule.now) board.now }
 {
     let positions = table.states() * rule.count();
-    let places = if board.len() < positions {
-        board.len()
-    } else {
-        positions
-    };
+    let places = &board[..positions.min(board.len())];
     Tally {
-        t: count(board, places, 2),
-        f: count(board, places, 1),
-        undecided: count(board, places, 0),
+        t: count(places, 2),
+        f: count(places, 1),
+        undecided: count(places, 0),
     }
 }
 
-// How often a byte stands in the first places of a board.
-fn count(board: &[u8], places: usize, byte: u8) -> usize
-    requires { places ≤ length board.now }
-    ensures { result ≡ count_by (nat_eq byte) (take places board.now) }
+// How often a byte stands in a part of a board.
+fn count(places: &[u8], byte: u8) -> usize
+    ensures { result ≡ count_by (nat_eq byte) places.now }
 {
-    let mut found = 0;
-    for i in 0..places {
-        if board[i] == byte {
-            found += 1;
-        }
-    }
-    found
+    places.iter().filter(|b| byte == **b).count()
 }

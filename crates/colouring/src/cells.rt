@@ -1,5 +1,5 @@
 // Reading and writing one place of a column.
-ghost use Rattle.std.specs.Prelude.{◌≡◌, ◌/◌, ◌^◌, ◌<◌, length, slice_set};
+ghost use Rattle.std.specs.Prelude.{◌≡◌, ◌^◌, ◌<◌, length, slice_set};
 ghost use Rattle.systems.specs.Numbers.{colour_number};
 ghost use Rattle.colouring.specs.passes.Bytes.{flipped as flipped_of};
 ghost use Rattle.colouring.specs.passes.Columns.{cell, column};
@@ -8,36 +8,27 @@ use crate::columns::Columns;
 use crate::truth::{decode, flipped};
 use systems::Colour;
 
-pub(crate) fn read(columns: Columns, board: &[u8], clause: usize, state: usize) -> Colour
-    requires { cell columns clause state < length board.now }
-    ensures { result ≡ column columns board.now clause state }
-{
-    flipped(
-        columns.negated,
-        decode(board[state * columns.clauses + clause]),
-    )
-}
+impl Columns<'_> {
+    pub(crate) fn read(&self, board: &[u8], clause: usize, state: usize) -> Colour
+        requires { cell self.now clause state < length board.now }
+        ensures { result ≡ column self.now board.now clause state }
+    {
+        flipped(self.negated, decode(board[state * self.clauses + clause]))
+    }
 
-// Writes the clause's colour at a state.
-pub(crate) fn write(columns: Columns, board: &mut [u8], state: usize, v: Colour)
-    requires { cell columns columns.whole state < length board.old }
-    ensures { board.new ≡ slice_set board.old (cell columns columns.whole state) (colour_number (flipped_of columns.negated v)) }
-{
-    board[state * columns.clauses + columns.whole] = flipped(columns.negated, v).number();
-}
+    // Writes the clause's colour at a state.
+    pub(crate) fn write(&self, board: &mut [u8], state: usize, v: Colour)
+        requires { cell self.now self.now.whole state < length board.old }
+        ensures { board.new ≡ slice_set board.old (cell self.now self.now.whole state) (colour_number (flipped_of self.now.negated v)) }
+    {
+        board[state * self.clauses + self.whole] = u8::from(flipped(self.negated, v));
+    }
 
-// The number of the clause's position at a state.
-pub(crate) fn position(columns: Columns, state: usize) -> usize
-    requires { cell columns columns.whole state < 2 ^ 64 }
-    ensures { result ≡ cell columns columns.whole state }
-{
-    state * columns.clauses + columns.whole
-}
-
-// The state of a position.
-pub(crate) fn state_of(columns: Columns, position: usize) -> usize
-    requires { 0 < columns.clauses }
-    ensures { result ≡ position / columns.clauses }
-{
-    position / columns.clauses
+    // The number of the clause's position at a state.
+    pub(crate) fn position(&self, state: usize) -> usize
+        requires { cell self.now self.now.whole state < 2 ^ 64 }
+        ensures { result ≡ cell self.now self.now.whole state }
+    {
+        state * self.clauses + self.whole
+    }
 }

@@ -2,7 +2,6 @@
 // the definition of colours.
 #![tactic(auto)]
 
-mod asking;
 pub mod boards;
 mod cells;
 mod clauses;

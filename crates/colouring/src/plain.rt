@@ -1,87 +1,98 @@
-// Columns that are written state by state.
-ghost use Rattle.std.specs.Prelude.{◌≡◌, ◌<◌};
-ghost use Rattle.systems.specs.Written.{table_model};
+// Columns that are written state by state. That they lie on the board is asked of each call: a struct that
+// held the lent board would have each promise instead that it is the same board still.
+ghost use Rattle.std.specs.Prelude.{◌≡◌, ℕ, ◌<◌};
 ghost use Rattle.rules.specs.declared.syntax.Quantifier.TheVariants.{E};
-ghost use Rattle.colours.specs.Values.{next_value};
-ghost use Rattle.colouring.specs.passes.Columns.{Lies, Fits, column, Written, throughout, marked, met, OnlyColumn};
+ghost use Rattle.systems.specs.declared.kinds.Colour.{Colour};
+ghost use Rattle.colours.specs.Values.{meet as meet_of, rated as rated_of, next_value};
+ghost use Rattle.colouring.specs.passes.Columns.{model, Lies, Fits, column, Askable, Says, Written, throughout, marked, met, OnlyColumn};
 
-use crate::asking::{mark_of, step_of};
-use crate::cells::{read, write};
 use crate::columns::Columns;
 use crate::truth::{join, meet, rated};
-use systems::{Colour, Table};
+use systems::{Colour, Step, System};
 
-// Writes one colour throughout.
-pub(crate) fn fill(columns: Columns, board: &mut [u8], v: Colour)
-    requires lies { Lies columns board.old }
-    ensures { Written columns board.old board.new (throughout v) }
+// Writes at each state what a rule for colours says of the board as it then is.
+fn write_each<F: Fn(&[u8], usize) -> Colour>(columns: &Columns<'_>, board: &mut [u8], value: F)
+    requires lies { Lies columns.now board.old }
+    requires askable { Askable columns.now board.old (F.pre value) }
+    ensures only { OnlyColumn columns.now board.old board.new }
+    ensures written { (f : ℕ → Colour) → Says columns.now board.old (F.post value) f → Written columns.now board.old board.new f }
 {
     for s in 0..columns.states {
-        write(columns, board, s, v);
+        let v = value(board, s);
+        columns.write(board, s, v);
     }
+}
+
+// Writes one colour throughout.
+pub(crate) fn fill(columns: &Columns<'_>, board: &mut [u8], v: Colour)
+    requires lies { Lies columns.now board.old }
+    ensures { Written columns.now board.old board.new (throughout v) }
+{
+    write_each(columns, board, |_, _| v);
 }
 
 // Writes the values of a mark; where the table does not have it, something.
-pub(crate) fn fill_mark(columns: Columns, table: &Table, board: &mut [u8], mark: usize)
-    requires lies { Lies columns board.old }
-    requires states { columns.states ≡ (table_model table.now).states }
-    ensures only { OnlyColumn columns board.old board.new }
-    ensures values { mark < (table_model table.now).marks → Written columns board.old board.new (marked (table_model table.now) mark) }
+pub(crate) fn fill_mark(columns: &Columns<'_>, board: &mut [u8], mark: usize)
+    requires lies { Lies columns.now board.old }
+    ensures only { OnlyColumn columns.now board.old board.new }
+    ensures values { mark < (model columns.now).marks → Written columns.now board.old board.new (marked (model columns.now) mark) }
 {
-    for s in 0..columns.states {
-        let v = mark_of(table, s, mark);
-        write(columns, board, s, v);
-    }
+    write_each(
+        columns,
+        board,
+        |_, s| columns.table.mark_or_unknown(s, mark),
+    );
 }
 
 // Writes the right part into the clause's column.
-pub(crate) fn copy_right(columns: Columns, board: &mut [u8])
-    requires fits { Fits columns board.old }
-    ensures { Written columns board.old board.new (column columns board.old columns.right) }
+pub(crate) fn copy_right(columns: &Columns<'_>, board: &mut [u8])
+    requires fits { Fits columns.now board.old }
+    ensures { Written columns.now board.old board.new (column columns.now board.old columns.now.right) }
 {
-    for s in 0..columns.states {
-        let v = read(columns, board, columns.right, s);
-        write(columns, board, s, v);
-    }
+    write_each(columns, board, |b, s| columns.read(b, columns.right, s));
 }
 
 // Writes the meet of both parts.
-pub(crate) fn meet_parts(columns: Columns, board: &mut [u8])
-    requires fits { Fits columns board.old }
-    ensures { Written columns board.old board.new (met columns board.old) }
+pub(crate) fn meet_parts(columns: &Columns<'_>, board: &mut [u8])
+    requires fits { Fits columns.now board.old }
+    ensures { Written columns.now board.old board.new (met columns.now board.old) }
 {
-    for s in 0..columns.states {
-        let l = read(columns, board, columns.left, s);
-        let r = read(columns, board, columns.right, s);
-        write(columns, board, s, meet(l, r));
+    write_each(columns, board, |b, s| {
+        meet(
+            columns.read(b, columns.left, s),
+            columns.read(b, columns.right, s),
+        )
+    });
+}
+
+// How true it is that a step leads from s to t and the left part is so there.
+fn across(columns: &Columns<'_>, board: &[u8], s: usize, t: usize) -> Colour
+    requires fits { Fits columns.now board.now }
+    requires s { s < columns.now.states }
+    requires t { t < columns.now.states }
+    ensures { result ≡ meet_of (rated_of ((model columns.now).step s t)) (column columns.now board.now columns.now.left t) }
+{
+    match columns.table.step_or_absent(s, t) {
+        Step::Absent => Colour::F,
+        step => meet(rated(step), columns.read(board, columns.left, t)),
     }
 }
 
-// How true it is that a step from a state leads to where the left part is so.
-fn ahead(columns: Columns, table: &Table, board: &[u8], s: usize) -> Colour
-    requires fits { Fits columns board.now }
-    requires states { columns.states ≡ (table_model table.now).states }
-    requires low { s < columns.states }
-    ensures { result ≡ next_value (table_model table.now) E (column columns board.now columns.left) s }
+// How true it is that a step from s leads to where the left part is so.
+fn ahead(columns: &Columns<'_>, board: &[u8], s: usize) -> Colour
+    requires fits { Fits columns.now board.now }
+    requires low { s < columns.now.states }
+    ensures { result ≡ next_value (model columns.now) E (column columns.now board.now columns.now.left) s }
 {
-    let mut sum = Colour::F;
-    for t in 0..columns.states {
-        let there = read(columns, board, columns.left, t);
-        let step = rated(step_of(table, s, t));
-        let across = meet(step, there);
-        sum = join(sum, across);
-    }
-    sum
+    (0..columns.states)
+        .map(|t| across(columns, board, s, t))
+        .fold(Colour::F, join)
 }
 
 // Writes what the next states say.
-pub(crate) fn look_ahead(columns: Columns, table: &Table, board: &mut [u8])
-    requires fits { Fits columns board.old }
-    requires states { columns.states ≡ (table_model table.now).states }
-    ensures { Written columns board.old board.new (next_value (table_model table.now) E (column columns board.old columns.left)) }
+pub(crate) fn look_ahead(columns: &Columns<'_>, board: &mut [u8])
+    requires fits { Fits columns.now board.old }
+    ensures { Written columns.now board.old board.new (next_value (model columns.now) E (column columns.now board.old columns.now.left)) }
 {
-    for s in 0..columns.states {
-        let v = ahead(columns, table, board, s);
-        write(columns, board, s, v);
-    }
+    write_each(columns, board, |b, s| ahead(columns, b, s));
 }

@@ -1,138 +1,134 @@
 // E(r U q), and with T and F exchanged A(r V q): the column rises from F. A state whose colour rose
 // waits in the queue until all that have a step to it are raised by what it passes on.
-ghost use Rattle.std.specs.Prelude.{◌≡◌, ℕ, ◌+◌, ◌*◌, ◌<◌, ◌≤◌, List, [], ◌∷◌, ◌++◌, length};
+ghost use Rattle.std.specs.Prelude.{◌≡◌, ℕ, ◌+◌, ◌*◌, ◌<◌, ◌≤◌, List, length};
 ghost use Rattle.queue.specs.Held.{held, room};
-ghost use Rattle.systems.specs.Written.{table_model};
-ghost use Rattle.colours.specs.Levels.{IsUntil};
-ghost use Rattle.colouring.specs.passes.Columns.{Fits, column, Clean, OnlyColumn};
-ghost use Rattle.colouring.specs.passes.Rising.{left_above, passed, Raised, Rising};
+ghost use Rattle.colouring.specs.passes.Columns.{Fits, column};
+ghost use Rattle.colouring.specs.passes.Rising.{left_above, Risen};
 
-use crate::asking::step_of;
-use crate::cells::{position, read, state_of, write};
 use crate::columns::Columns;
 use crate::plain::fill;
-use crate::truth::{join, meet, rated, same};
+use crate::truth::{join, meet, rated};
 use queue::Ring;
-use systems::{Colour, Table};
+use systems::{Colour, System};
 
-// Takes a position in, where there is room.
-pub(crate) fn push_sure(queue: &mut Ring<'_, usize>, position: usize)
-    requires { length (held queue.old) < room queue.old }
-    ensures { (held queue.new ≡ held queue.old ++ position ∷ []) × (room queue.new ≡ room queue.old) }
-{
-    match queue.push(position) {
-        Ok(()) => {}
-        Err(_) => unreachable(),
-    }
+// The clause's column rises. The queue has room for what waits and all that may yet have to.
+#[derive(Drop)]
+struct RisingColumn<'t, 'b, 'q> {
+    columns: Columns<'t>,
+    board: &'b mut [u8],
+    queue: &'b mut Ring<'q, usize>,
+    ghost fits: { Fits columns board.now },
+    ghost place: { length (held queue.now) + left_above columns board.now ≤ room queue.now },
 }
 
-// Raises the clause's colour at a state by v; where that changes it, the state waits.
-fn raise(columns: Columns, board: &mut [u8], queue: &mut Ring<'_, usize>, s: usize, v: Colour)
-    requires fits { Fits columns board.old }
-    requires low { s < columns.states }
-    requires place { length (held queue.old) + left_above columns board.old ≤ room queue.old }
-    ensures raised { Raised columns board.old board.new (held queue.old) (held queue.new) s v }
-    ensures room { room queue.new ≡ room queue.old }
-{
-    let old = read(columns, board, columns.whole, s);
-    let new = join(old, v);
-    if !same(new, old) {
-        write(columns, board, s, new);
-        push_sure(queue, position(columns, s));
-    }
-}
+impl RisingColumn<'_, '_, '_> {
+    ghost use Rattle.colouring.specs.passes.RisingColumns.{Same, Next, load, Lifts, gain, Starts, Rises, Rests};
 
-// Raises a state by what t passes on to it, if there may be a step.
-fn pass_on(
-    columns: Columns,
-    table: &Table,
-    board: &mut [u8],
-    queue: &mut Ring<'_, usize>,
-    s: usize,
-    t: usize,
-)
-    requires fits { Fits columns board.old }
-    requires states { columns.states ≡ (table_model table.now).states }
-    requires low { (s < columns.states) × (t < columns.states) }
-    requires place { length (held queue.old) + left_above columns board.old ≤ room queue.old }
-    ensures raised { Raised columns board.old board.new (held queue.old) (held queue.new) s (passed (table_model table.now) (column columns board.old columns.left) (column columns board.old columns.whole) s t) }
-    ensures room { room queue.new ≡ room queue.old }
-{
-    let step = rated(step_of(table, s, t));
-    if same(step, Colour::F) {
-        return;
+    // The colour of a clause at a state. This and `next` stand at falling columns too: a struct for what
+    // both hold would be a field that holds a `&mut`, whose use the borrow checker has no rule for yet.
+    fn read(&self, clause: usize, state: usize) -> Colour
+        requires clause { clause < self.now.columns.clauses }
+        requires state { state < self.now.columns.states }
+        ensures { result ≡ column self.now.columns self.now.board.now clause state }
+    {
+        self.columns.read(self.board, clause, state)
     }
-    let there = read(columns, board, columns.whole, t);
-    let here = read(columns, board, columns.left, s);
-    let across = meet(step, there);
-    let gain = meet(here, across);
-    raise(columns, board, queue, s, gain);
-}
 
-// Raises each state by what t passes on to it.
-fn look_back(
-    columns: Columns,
-    table: &Table,
-    board: &mut [u8],
-    queue: &mut Ring<'_, usize>,
-    t: usize,
-)
-    requires fits { Fits columns board.old }
-    requires states { columns.states ≡ (table_model table.now).states }
-    requires low { t < columns.states }
-    requires place { length (held queue.old) + left_above columns board.old ≤ room queue.old }
-    ensures kept { (b₀ : List ℕ) → Rising columns (table_model table.now) b₀ board.old (held queue.old) (table_model table.now).states t 0 → Rising columns (table_model table.now) b₀ board.new (held queue.new) (table_model table.now).states 0 (table_model table.now).states }
-    ensures sum { length (held queue.new) + left_above columns board.new ≤ length (held queue.old) + left_above columns board.old }
-    ensures room { room queue.new ≡ room queue.old }
-{
-    for s in 0..columns.states {
-        pass_on(columns, table, board, queue, s, t);
+    // The state that waits longest; it then waits no more.
+    fn next(&mut self) -> Option<usize>
+        ensures same { Same self.old self.new }
+        ensures next { Next self.old self.new result }
+    {
+        let position = self.queue.pop()?;
+        Some(position / self.columns.clauses)
     }
-}
 
-// Raises each state by the right part.
-fn seed(columns: Columns, table: &Table, board: &mut [u8], queue: &mut Ring<'_, usize>)
-    requires fits { Fits columns board.old }
-    requires states { columns.states ≡ (table_model table.now).states }
-    requires place { length (held queue.old) + left_above columns board.old ≤ room queue.old }
-    ensures kept { (b₀ : List ℕ) → Rising columns (table_model table.now) b₀ board.old (held queue.old) 0 0 (table_model table.now).states → Rising columns (table_model table.now) b₀ board.new (held queue.new) (table_model table.now).states 0 (table_model table.now).states }
-    ensures sum { length (held queue.new) + left_above columns board.new ≤ length (held queue.old) + left_above columns board.old }
-    ensures room { room queue.new ≡ room queue.old }
-{
-    for s in 0..columns.states {
-        let here = read(columns, board, columns.right, s);
-        raise(columns, board, queue, s, here);
+    // Raises the clause's colour at a state by v; where that changes it, the state waits.
+    fn raise(&mut self, s: usize, v: Colour)
+        requires { s < self.old.columns.states }
+        ensures same { Same self.old self.new }
+        ensures lifts { Lifts self.old self.new s v }
+    {
+        let whole = self.columns.whole;
+        let old = self.read(whole, s);
+        let new = join(old, v);
+        if new != old {
+            self.columns.write(self.board, s, new);
+            self.queue.push(self.columns.position(s)).unwrap();
+        }
     }
-}
 
-// Goes on until nothing waits.
-fn spread(columns: Columns, table: &Table, board: &mut [u8], queue: &mut Ring<'_, usize>)
-    requires fits { Fits columns board.old }
-    requires states { columns.states ≡ (table_model table.now).states }
-    requires place { length (held queue.old) + left_above columns board.old ≤ room queue.old }
-    requires begun { (b₀ : List ℕ) × Rising columns (table_model table.now) b₀ board.old (held queue.old) (table_model table.now).states 0 (table_model table.now).states }
-    ensures kept { (b₀ : List ℕ) → Rising columns (table_model table.now) b₀ board.old (held queue.old) (table_model table.now).states 0 (table_model table.now).states → Rising columns (table_model table.now) b₀ board.new [] (table_model table.now).states 0 (table_model table.now).states }
-    ensures room { room queue.new ≡ room queue.old }
-{
-    while let Some(position) = queue.pop() {
-        let t = state_of(columns, position);
-        look_back(columns, table, board, queue, t);
+    // Raises a state by what t passes on to it, if there may be a step.
+    fn pass_on(&mut self, s: usize, t: usize)
+        requires s { s < self.old.columns.states }
+        requires t { t < self.old.columns.states }
+        ensures same { Same self.old self.new }
+        ensures lifts { Lifts self.old self.new s (gain self.old s t) }
+    {
+        let step = rated(self.columns.table.step_or_absent(s, t));
+        if step == Colour::F {
+            return;
+        }
+        let Columns { left, whole, .. } = self.columns;
+        let there = self.read(whole, t);
+        let here = self.read(left, s);
+        let across = meet(step, there);
+        let gain = meet(here, across);
+        self.raise(s, gain);
+    }
+
+    // Raises each state by what t passes on to it.
+    fn look_back(&mut self, t: usize)
+        requires { t < self.old.columns.states }
+        ensures same { Same self.old self.new }
+        ensures kept { (b₀ : List ℕ) → Rises self.old b₀ t 0 → Rests self.new b₀ }
+        ensures load { load self.new ≤ load self.old }
+    {
+        for s in 0..self.columns.states {
+            self.pass_on(s, t);
+        }
+    }
+
+    // Raises each state by the right part.
+    fn seed(&mut self)
+        ensures same { Same self.old self.new }
+        ensures kept { (b₀ : List ℕ) → Starts self.old b₀ 0 → Rests self.new b₀ }
+    {
+        let right = self.columns.right;
+        for s in 0..self.columns.states {
+            let here = self.read(right, s);
+            self.raise(s, here);
+        }
+    }
+
+    // Goes on until nothing waits.
+    fn spread(&mut self)
+        requires { (b₀ : List ℕ) × Rests self.old b₀ }
+        ensures same { Same self.old self.new }
+        ensures risen { (b₀ : List ℕ) → Rests self.old b₀ → Risen self.old.columns b₀ self.new.board.now }
+    {
+        while let Some(t) = self.next() {
+            self.look_back(t);
+        }
     }
 }
 
 // Writes at both levels the states from which a walk has the right part at its last state and the left
 // part before.
-pub(crate) fn rise(columns: Columns, table: &Table, board: &mut [u8], queue: &mut Ring<'_, usize>)
-    requires fits { Fits columns board.old }
-    requires states { columns.states ≡ (table_model table.now).states }
-    requires place { 2 * columns.states ≤ room queue.old }
-    ensures until { IsUntil (table_model table.now) (column columns board.old columns.left) (column columns board.old columns.right) (column columns board.new columns.whole) }
-    ensures clean { Clean columns board.new }
-    ensures only { OnlyColumn columns board.old board.new }
+pub(crate) fn rise(columns: &Columns<'_>, board: &mut [u8], queue: &mut Ring<'_, usize>)
+    requires fits { Fits columns.now board.old }
+    requires place { 2 * columns.now.states ≤ room queue.old }
+    ensures risen { Risen columns.now board.old board.new }
     ensures room { room queue.new ≡ room queue.old }
 {
     queue.clear();
     fill(columns, board, Colour::F);
-    seed(columns, table, board, queue);
-    spread(columns, table, board, queue);
+    let columns = *columns;
+    let mut rise = RisingColumn {
+        columns,
+        board,
+        queue,
+    };
+    rise.seed();
+    rise.spread();
 }

@@ -12,7 +12,7 @@ use Rattle.colours.proofs.Preservation.{Keeps, preserves}
 use Rattle.colours.proofs.Computed.{one_colour_computed}
 use Rattle.colours.proofs.Verdicts.{one_verdict}
 
-agree_back : (M L : Model) → Agree M L → Agree L M
+pub agree_back : (M L : Model) → Agree M L → Agree L M
 agree_back M L a = record {
   states = sym a.states;
   marks = sym a.marks;

@@ -18,7 +18,7 @@ use Rattle.colours.specs.Values.{colour_of}
 use Rattle.colours.specs.Groupings.{grouped}
 use Rattle.colours.specs.Chains.{clause_at, Unknown, Open, GoesOn, Ends, EndsInStep, Chain}
 use Rattle.colours.specs.Theorems.{UndecidedHasAChain, UndecidedVerdictHasACause, NoSearchRunsDry, MarksKnown, ChainsPartMembers}
-use Rattle.colours.proofs.Lists.{find, least, in_left, in_right, drop_at, length_drop_at, move}
+use Rattle.colours.proofs.Lists.{find, least, in_left, in_right, drop_at, length_drop_at, move, last_of}
 use Rattle.colours.proofs.Computed.{colours_shown}
 use Rattle.colours.proofs.Causes.{closed_is_empty}
 use Rattle.colours.proofs.Deciding.{undecided?, open?, goes_on?, end?}
@@ -67,10 +67,6 @@ in_grid (suc g) C p a b = elim (ℕ_discrete p.group g) [
   | yes e ↦ in_left p (row g C) (grid g C) (in_row g C p e b)
   | no n ↦ in_right p (row g C) (grid g C) (in_grid g C p (omega arith) b)
 ]
-
-last_of : (P : Position → Type 0) (p : Position) (ps : List Position) → AllByRecursion P (p ∷ ps) → P (last p ps)
-last_of P p [] a = a.0
-last_of P p (q ∷ qs) a = last_of P q qs a.1
 
 module _ (step : Position → Position → Type 0) (P : Position → Type 0) where
   -- a walk of different positions from p to e

@@ -1,6 +1,6 @@
 -- Which positions are undecided, which may follow which, and whether a chain can end at one, is decided by the computed colours.
 use Rattle.std.proofs.Common.{◌≡◌, ℕ, ◌<◌, ◌⊎◌, List, length, sym, refl, ap, ◌∙◌, subst, inl, inr, arith}
-use native.Mathlib.Decide.{ℕ_discrete, dec_lt}
+use native.Mathlib.Decide.{ℕ_discrete, dec_lt, map_dec}
 use Rattle.systems.specs.declared.kinds.Step.{Step}
 use Rattle.systems.specs.declared.kinds.Step.TheVariants.{Absent, Unsure, Sure}
 use Rattle.systems.specs.declared.kinds.Colour.{Colour}
@@ -26,11 +26,11 @@ use Rattle.colours.proofs.Lists.{least}
 use Rattle.colours.proofs.Numbered.{formula_tree}
 use Rattle.colours.proofs.Causes.{unknown_mark}
 
-not? : {P : Type 0} → Dec P → Dec (¬ P)
+pub not? : {P : Type 0} → Dec P → Dec (¬ P)
 not? (yes p) = no (λ k. k p)
 not? (no k) = yes k
 
-and? : {P Q : Type 0} → Dec P → Dec Q → Dec (P × Q)
+pub and? : {P Q : Type 0} → Dec P → Dec Q → Dec (P × Q)
 and? (yes p) (yes q) = yes (p, q)
 and? (yes p) (no k) = no (λ h. k h.1)
 and? (no k) d = no (λ h. k h.0)
@@ -39,10 +39,6 @@ or? : {P Q : Type 0} → Dec P → Dec Q → Dec (P ⊎ Q)
 or? (yes p) d = yes (inl p)
 or? (no k) (yes q) = yes (inr q)
 or? (no k) (no l) = no (elim [ inl p ↦ k p | inr q ↦ l q ])
-
-like? : {P Q : Type 0} → (P → Q) → (Q → P) → Dec P → Dec Q
-like? a b (yes p) = yes (a p)
-like? a b (no k) = no (λ q. k (b q))
 
 module _ (M : Model) where
   absent? : (k : Step) → Dec (k ≡ Absent)
@@ -56,11 +52,11 @@ module _ (M : Model) where
   unsure? Sure = no (λ e. grind arith)
 
   possibly? : (s t : ℕ) → Dec (Possibly M s t)
-  possibly? s t = like? (λ h. (h.0, h.1.0, h.1.1)) (λ h. (h.0, (h.1, h.2)))
+  possibly? s t = map_dec (λ h. (h.0, h.1.0, h.1.1)) (λ h. (h.0, (h.1, h.2)))
       (and? (dec_lt s M.states) (and? (dec_lt t M.states) (not? (absent? (M.step s t)))))
 
   unsurely? : (s t : ℕ) → Dec (Unsurely M s t)
-  unsurely? s t = like? (λ h. (h.0, h.1.0, h.1.1)) (λ h. (h.0, (h.1, h.2)))
+  unsurely? s t = map_dec (λ h. (h.0, h.1.0, h.1.1)) (λ h. (h.0, (h.1, h.2)))
       (and? (dec_lt s M.states) (and? (dec_lt t M.states) (unsure? (M.step s t))))
 
   module _ (f : Formula) (s : ℕ) (b : s < M.states) where
@@ -107,7 +103,7 @@ module _ (M : Model) where
     pub open? : (p : Position) → Dec (Open M cs p)
     open? p = elim (dec_lt p.group M.states) [
       | no k ↦ no (λ o. k o.0)
-      | yes b ↦ like? (λ h. (b, h.0, h.1)) (λ o. (o.1, o.2))
+      | yes b ↦ map_dec (λ h. (b, h.0, h.1)) (λ o. (o.1, o.2))
           (and? (dec_lt p.clause (length cs)) (undecided? (formula cs p.clause) p.group b))
     ]
 
@@ -116,7 +112,7 @@ module _ (M : Model) where
     follows? (Mark p negated) i s j t b = no (λ h. h)
     follows? (Next k r) i s j t b = and? (ℕ_discrete j r) (possibly? s t)
     follows? (Pair o r q) i s j t b = or? (and? (or? (ℕ_discrete j r) (ℕ_discrete j q)) (ℕ_discrete t s))
-        (like? (λ h. (h.0, h.1.0, h.1.1)) (λ h. (h.0, (h.1, h.2)))
+        (map_dec (λ h. (h.0, h.1.0, h.1.1)) (λ h. (h.0, (h.1, h.2)))
         (and? (ℕ_discrete j i) (and? (looks? (formula cs r) s b o) (possibly? s t))))
 
     pub goes_on? : (p n : Position) → p.group < M.states → Dec (GoesOn M cs p n)
@@ -127,7 +123,7 @@ module _ (M : Model) where
     ends_in_step? (Mark p negated) i s t b d = no (λ h. h)
     ends_in_step? (Next k r) i s t b d = and? (unsurely? s t) (shown? (formula cs r) t d k)
     ends_in_step? (Pair o r q) i s t b d =
-        like? (λ h. (h.0, h.1.0, h.1.1)) (λ h. (h.0, (h.1, h.2)))
+        map_dec (λ h. (h.0, h.1.0, h.1.1)) (λ h. (h.0, (h.1, h.2)))
         (and? (unsurely? s t) (and? (looks? (formula cs r) s b o) (awaited? (formula cs i) t d o)))
 
     target : (c : Clause) (i s t : ℕ) → EndsInStep M cs c i s t → t < M.states

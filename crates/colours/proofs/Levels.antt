@@ -1,5 +1,5 @@
 -- Joins and meets at the two levels, and colours told by them.
-use Rattle.std.proofs.Common.{◌≡◌, ℕ, zero, suc, ◌<◌, Bool, true, false, ◌&&◌, ◌||◌, T as So, ◌⊎◌, sym, refl, subst, inl, inr, not-suc-le-zero, arith}
+use Rattle.std.proofs.Common.{◌≡◌, ℕ, zero, suc, ◌<◌, Bool, true, false, ◌&&◌, ◌||◌, T as So, ◌⊎◌, refl, subst, inl, inr, not-suc-le-zero, arith}
 use native.Mathlib.Decide.{ℕ_discrete}
 use Rattle.systems.specs.declared.kinds.Colour.{Colour}
 use Rattle.systems.specs.declared.kinds.Colour.TheVariants.{Undecided, F, T}
@@ -16,21 +16,9 @@ or_parts : (a b : Bool) → So (a || b) → So a ⊎ So b
 or_parts true b h = inl tt
 or_parts false b h = inr h
 
-or_left : (a b : Bool) → So a → So (a || b)
-or_left true b h = tt
-or_left false b h = absurd h
-
-or_right : (a b : Bool) → So b → So (a || b)
-or_right true b h = tt
-or_right false b h = h
-
 and_parts : (a b : Bool) → So (a && b) → So a × So b
 and_parts true b h = (tt, h)
 and_parts false b h = absurd h
-
-and_both : (a b : Bool) → So a → So b → So (a && b)
-and_both true b h k = k
-and_both false b h k = absurd h
 
 pub F_counts_not : (l : Level) → So (counts l F) → ⊥
 F_counts_not surely h = h
@@ -45,16 +33,16 @@ module _ (l : Level) where
   join_parts a b h = or_parts (counts l a) (counts l b) (subst So (counts_join l a b) h)
 
   pub join_left : (a b : Colour) → So (counts l a) → So (counts l (join a b))
-  join_left a b h = subst So (sym (counts_join l a b)) (or_left (counts l a) (counts l b) h)
+  join_left a b h = grind arith
 
   pub join_right : (a b : Colour) → So (counts l b) → So (counts l (join a b))
-  join_right a b h = subst So (sym (counts_join l a b)) (or_right (counts l a) (counts l b) h)
+  join_right a b h = grind arith
 
   pub meet_parts : (a b : Colour) → So (counts l (meet a b)) → So (counts l a) × So (counts l b)
   meet_parts a b h = and_parts (counts l a) (counts l b) (subst So (counts_meet l a b) h)
 
   pub meet_both : (a b : Colour) → So (counts l a) → So (counts l b) → So (counts l (meet a b))
-  meet_both a b h k = subst So (sym (counts_meet l a b)) (and_both (counts l a) (counts l b) h k)
+  meet_both a b h k = grind arith
 
   pub found_below : (n : ℕ) (f : ℕ → Colour) → So (counts l (join_below n f)) → (t : ℕ) × (t < n) × So (counts l (f t))
   unfolding join_below

@@ -6,22 +6,16 @@ ghost use Rattle.colours.specs.PathTheorems.{
 };
 
 // Over every lawful model a rule is T by walks where it is T by maximal paths, and F where it is F.
-pub fn walks_and_paths_agree() -> u8
+pub fn walks_and_paths_agree()
     ensures { WalksAndPathsAgree }
-{
-    0
-}
+{}
 
 // Over every lawful model the verdict by walks is the verdict by maximal paths.
-pub fn verdicts_by_paths_agree() -> u8
+pub fn verdicts_by_paths_agree()
     ensures { VerdictsByPathsAgree }
-{
-    0
-}
+{}
 
 // In a lawful model no maximal possible path ends.
-pub fn possible_paths_endless() -> u8
+pub fn possible_paths_endless()
     ensures { PossiblePathsEndless }
-{
-    0
-}
+{}

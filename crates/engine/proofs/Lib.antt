@@ -6,3 +6,4 @@ pub mod Traced
 pub mod Meaning
 pub mod Chaining
 pub mod Starting
+pub mod Steps

@@ -7,9 +7,9 @@ use Rattle.colours.specs.declared.chains.Position.{Position}
 use Rattle.colours.specs.declared.chains.Reason.{Reason}
 use Rattle.engine.specs.declared.links.Link.{Link}
 use Rattle.engine.specs.declared.cause.looking.Finding.{Finding}
-use Rattle.engine.specs.declared.cause.looking.Finding.TheVariants.{End, Next, Nothing}
+use Rattle.engine.specs.declared.cause.looking.Finding.TheVariants.{End, Next}
 use Rattle.engine.specs.search.Searches.{Graph, place_of, Inside, Leads, before, Seen, unseen, Ranked, Rooted, Led, Waits, Passed, Tried, Done, Known, Searching, Spreading, Found}
-use Rattle.engine.proofs.Tables.{place_below, place_same, unseen_mark, unseen_le, some_none, some_same, before_same, before_other, before_at, seen_stays, apart, raised, raised_same, raised_other}
+use Rattle.engine.proofs.Tables.{place_below, place_same, unseen_mark, unseen_le, before_same, before_other, before_at, seen_stays, apart, raised, raised_same, raised_other}
 
 waits_push : (p : Position) (ls : List Link) (l : Link) → Waits p ls → Waits p (ls ++ l ∷ [])
 waits_push p [] l w = absurd w
@@ -80,7 +80,7 @@ module _ (m : Graph) (start : Position) (table : List (Option Position)) (n q : 
           → Dec (place_of C p ≡ place_of C n)
           → Inside G C o × Seen C t' o × (rank' (place_of C o) < rank' (place_of C p))
       back' p o i e d (yes f) =
-          let g : q ≡ o = some_same (before C t' p) q o (before_at C table n q bound p f) e in
+          let g : q ≡ o = cc (before_at C table n q bound p f, e) in
           subst (λ x. Inside G C x × Seen C t' x × (rank' (place_of C x) < rank' (place_of C p))) g (
             seen_q.0,
             stays q seen_q.1,
@@ -107,7 +107,7 @@ module _ (m : Graph) (start : Position) (table : List (Option Position)) (n q : 
   fresh_led : m.groups * m.clauses ≤ length table → Led m start table → Leads m q n → Led m start next_table
   fresh_led w led way p o i e d = elim (ℕ_discrete (place_of m.clauses p) (place_of m.clauses n)) [
     | yes f ↦
-        (let g : q ≡ o = some_same (before m.clauses next_table p) q o (before_at m.clauses table n q bound p f) e in
+        (let g : q ≡ o = cc (before_at m.clauses table n q bound p f, e) in
         let h : n ≡ p = place_same m.groups m.clauses n p low i (sym f) in
         subst (λ x. Leads m x p) g (subst (λ x. Leads m q x) h way))
     | no f ↦ led p o i (sym (before_other m.clauses table n q bound p f) ∙ e) d
@@ -117,15 +117,15 @@ module _ (m : Graph) (start : Position) (table : List (Option Position)) (n q : 
       bound = omega (arith, place_below m.groups m.clauses n low, w)
 
 -- what a look showed stays seen
-passed_stays : (C : ℕ) (table : List (Option Position)) (n q : Position) → place_of C n < length table → (f : Finding) → Passed C table f
+passed_stays : (C : ℕ) (table : List (Option Position)) (n q : Position) → place_of C n < length table → (f : Option Finding) → Passed C table f
     → Passed C (set table (place_of C n) (Some q)) f
-passed_stays C table n q low (End reason) h = h
-passed_stays C table n q low (Next p) h = seen_stays C table n q low p h
-passed_stays C table n q low Nothing h = h
+passed_stays C table n q low (Some (End reason)) h = h
+passed_stays C table n q low (Some (Next p)) h = seen_stays C table n q low p h
+passed_stays C table n q low None h = h
 
 -- the look numbered k from a position shows one that was not seen
 pub spread_fresh : (m : Graph) (start from : Position) (k : ℕ) (table : List (Option Position)) (waiting : List Link) (n : Position)
-    → Spreading m start from k table waiting → k < m.looks from → m.look from k ≡ Next n → Inside m.groups m.clauses n
+    → Spreading m start from k table waiting → k < m.looks from → m.look from k ≡ Some (Next n) → Inside m.groups m.clauses n
     → before m.clauses table n ≡ None
     → Spreading m start from (k + 1) (set table (place_of m.clauses n) (Some from)) (waiting ++ record { at = n; from = from } ∷ [])
 spread_fresh m start from k table waiting n s b way low new =
@@ -203,7 +203,7 @@ spread_done m start from k table waiting s h =
 
 -- a look shows an end
 pub spread_end : (m : Graph) (start from : Position) (k : ℕ) (table : List (Option Position)) (waiting : List Link) (reason : Reason)
-    → Spreading m start from k table waiting → k < m.looks from → m.look from k ≡ End reason → Found m start table from reason
+    → Spreading m start from k table waiting → k < m.looks from → m.look from k ≡ Some (End reason) → Found m start table from reason
 spread_end m start from k table waiting reason s b e = record { rooted = s.rooted; led = s.led; here = s.here; end = (k, b, e) }
 
 -- a position leaves the queue
@@ -266,4 +266,4 @@ begun m start table w low clear =
     fewer = unseen_mark (G * C) table (place_of C start) start (place_below G C start low) bound (clear start low)
 
     none_else : (p q : Position) → Inside G C p → before C t' p ≡ Some q → ¬ (place_of C p ≡ place_of C start) → ⊥
-    none_else p q i e d = some_none (before C table p) q (clear p i) (sym (before_other C table start start bound p d) ∙ e)
+    none_else p q i e d = cc (clear p i, before_other C table start start bound p d, e)

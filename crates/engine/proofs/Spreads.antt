@@ -1,10 +1,10 @@
 -- One look taken.
-use Rattle.std.proofs.Common.{◌≡◌, ℕ, suc, ◌+◌, ◌*◌, ◌<◌, ◌≤◌, List, [], ◌∷◌, ◌++◌, length, set, Some, None, Option, sym, refl, ap, ◌∙◌, subst, subst₂, arith}
-use Rattle.std.proofs.lemmas.List.{length_push}
+use Rattle.std.proofs.Common.{◌≡◌, ℕ, suc, ◌+◌, ◌*◌, ◌<◌, ◌≤◌, List, [], ◌∷◌, ◌++◌, length, replicate, set, Some, None, Option, sym, refl, ap, ◌∙◌, subst, subst₂, arith}
+use Rattle.std.proofs.lemmas.List.{length_push, get_or-replicate, length-replicate}
 use Rattle.colours.specs.declared.chains.Position.{Position}
 use Rattle.engine.specs.declared.links.Link.{Link}
 use Rattle.engine.specs.declared.cause.looking.Finding.TheVariants.{Next}
-use Rattle.engine.specs.search.Searches.{Graph, place_of, Inside, before, Passed, unseen, Searching, Spreading, Saw, Space, SameSum, Cleared}
+use Rattle.engine.specs.search.Searches.{Graph, place_of, Inside, before, Passed, unseen, Searching, Spreading, Saw, Space}
 use Rattle.engine.proofs.Tables.{place_below, unseen_mark}
 use Rattle.engine.proofs.Moves.{spread_fresh, spread_seen, begun}
 
@@ -29,15 +29,15 @@ module _ (m : Graph) (from : Position) (table : List (Option Position)) (waiting
 
   module _ (table' : List (Option Position)) (waiting' : List Link)
       (saw : Saw (before m.clauses table n) m.clauses link table waiting table' waiting') where
-    pub saw_sum : SameSum m table waiting table' waiting'
+    pub saw_sum : unseen (m.groups * m.clauses) table' + length waiting' ≡ unseen (m.groups * m.clauses) table + length waiting
     saw_sum = go (before m.clauses table n) refl saw
       where
         go : (o : Option Position) → before m.clauses table n ≡ o → Saw o m.clauses link table waiting table' waiting'
-            → SameSum m table waiting table' waiting'
+            → unseen (m.groups * m.clauses) table' + length waiting' ≡ unseen (m.groups * m.clauses) table + length waiting
         go None e s = omega (arith, fewer e, ap (unseen (m.groups * m.clauses)) s.0, ap length s.1, length_push waiting link)
         go (Some q) e s = omega (arith, ap (unseen (m.groups * m.clauses)) s.0, ap length s.1)
 
-    pub saw_on : (start : Position) (k : ℕ) → k < m.looks from → m.look from k ≡ Next n → Spreading m start from k table waiting
+    pub saw_on : (start : Position) (k : ℕ) → k < m.looks from → m.look from k ≡ Some (Next n) → Spreading m start from k table waiting
         → Spreading m start from (k + 1) table' waiting'
     saw_on start k b way s = go (before m.clauses table n) refl saw
       where
@@ -49,28 +49,24 @@ module _ (m : Graph) (from : Position) (table : List (Option Position)) (waiting
             subst₂ (Spreading m start from (k + 1)) (sym z.0) (sym z.1)
             (spread_seen m start from k table waiting s (subst (Passed m.clauses table) (sym way) (q, e)))
 
+-- the search begins at its start, in a cleared table
 module _ (m : Graph) (start : Position) (table : List (Option Position)) (low : Inside m.groups m.clauses start)
-    (wide : m.groups * m.clauses ≤ length table) (clear : Cleared table) where
+    (wide : m.groups * m.clauses ≤ length table) (n : ℕ) (clear : table ≡ replicate n None) where
   clear_at : (p : Position) → Inside m.groups m.clauses p → before m.clauses table p ≡ None
-  clear_at p i = clear (place_of m.clauses p) (omega (arith, place_below m.groups m.clauses p i, wide))
+  clear_at p i =
+      ap (λ t. before m.clauses t p) clear
+      ∙ get_or-replicate n (place_of m.clauses p) None None
+      (omega (arith, place_below m.groups m.clauses p i, wide, ap length clear, length-replicate {A = Option Position} n None))
 
-  -- the code takes the number of clauses from the rule
-  module _ (C : ℕ) (C_is : C ≡ m.clauses) where
-    pub first_low : place_of C start < length table
-    first_low = subst (λ x. place_of x start < length table) (sym C_is) (omega (arith, place_below m.groups m.clauses start low, wide))
+  pub first_space : (waiting : List Link) (places : ℕ) → waiting ≡ [] → m.groups * m.clauses ≤ places → Space (before m.clauses table start) waiting places
+  first_space waiting places e h =
+      subst (λ o. Space o waiting places) (sym (clear_at start low)) (omega (arith, ap length e, h, place_below m.groups m.clauses start low))
 
-    pub first_space : (waiting : List Link) (places : ℕ) → waiting ≡ [] → m.groups * m.clauses ≤ places
-        → Space (before C table start) waiting places
-    first_space waiting places e h =
-        subst (λ x. Space (before x table start) waiting places) (sym C_is) (subst (λ o. Space o waiting places) (sym (clear_at start low))
-        (omega (arith, ap length e, h, place_below m.groups m.clauses start low)))
-
-    pub first_seen : (waiting : List Link) (table' : List (Option Position)) (waiting' : List Link) → waiting ≡ []
-        → Saw (before C table start) C (record { at = start; from = start }) table waiting table' waiting'
-        → Searching m start table' waiting'
-    first_seen waiting table' waiting' e s =
-        let link : Link = record { at = start; from = start } in
-        let y = subst (λ x. Saw (before x table start) x link table waiting table' waiting') C_is s in
-        let z : Saw None m.clauses link table waiting table' waiting' =
-        subst (λ o. Saw o m.clauses link table waiting table' waiting') (clear_at start low) y in
-        subst₂ (Searching m start) (sym z.0) (sym (z.1 ∙ ap (λ x. x ++ link ∷ []) e)) (begun m start table wide low clear_at)
+  pub first_seen : (waiting : List Link) (table' : List (Option Position)) (waiting' : List Link) → waiting ≡ []
+      → Saw (before m.clauses table start) m.clauses (record { at = start; from = start }) table waiting table' waiting'
+      → Searching m start table' waiting'
+  first_seen waiting table' waiting' e s =
+      let link : Link = record { at = start; from = start } in
+      let z : Saw None m.clauses link table waiting table' waiting' =
+      subst (λ o. Saw o m.clauses link table waiting table' waiting') (clear_at start low) s in
+      subst₂ (Searching m start) (sym z.0) (sym (z.1 ∙ ap (λ x. x ++ link ∷ []) e)) (begun m start table wide low clear_at)

@@ -1,5 +1,6 @@
 -- Places of positions, and a table with one entry more.
-use Rattle.std.proofs.Common.{◌≡◌, ℕ, zero, suc, ◌*◌, ◌/◌, ◌%◌, ◌<◌, ◌≤◌, cond, eqb, List, [], ◌∷◌, length, get_or, set, Some, None, Option, sym, ap, ◌∙◌, ap₂, le_of_suc-le-suc, not-suc-le-zero, arith, get_or-set_other, get_or-set_same}
+use Rattle.std.proofs.Common.{◌≡◌, ℕ, zero, suc, ◌*◌, ◌/◌, ◌%◌, ◌<◌, ◌≤◌, true, ◌&&◌, not, cond, eqb, List, [], ◌∷◌, length, get_or, set, Some, None, Option, sym, ap, ◌∙◌, ap₂, le_of_suc-le-suc, not-suc-le-zero, arith, eq-eqb, get_or-set_other, get_or-set_same}
+use mathlib.Core.Bool.{false≢true}
 use native.Mathlib.Decide.{ℕ_discrete}
 use Rattle.std.proofs.lemmas.Nat.{mul-add-lt, div-mul-add, mod-mul-add}
 use Rattle.colours.specs.declared.chains.Position.{Position}
@@ -31,12 +32,6 @@ unseen_le (suc n) [] = omega arith
 unseen_le (suc n) (None ∷ xs) = let r = unseen_le n xs in omega arith
 unseen_le (suc n) (Some x ∷ xs) = let r = unseen_le n xs in omega arith
 
-pub some_none : (o : Option Position) (q : Position) → o ≡ None → o ≡ Some q → ⊥
-some_none o q a b = let z : ◌≡◌ {A = ℕ} 0 1 = cc in omega arith
-
-pub some_same : (o : Option Position) (p q : Position) → o ≡ Some p → o ≡ Some q → p ≡ q
-some_same o p q a b = cc
-
 module _ (C : ℕ) (table : List (Option Position)) (n q : Position) (low : place_of C n < length table) where
   pub before_same : before C (set table (place_of C n) (Some q)) n ≡ Some q
   before_same = get_or-set_same table (place_of C n) (Some q) None low
@@ -53,7 +48,7 @@ module _ (C : ℕ) (table : List (Option Position)) (n q : Position) (low : plac
 -- what is seen stands elsewhere than what is not
 pub apart : (C : ℕ) (table : List (Option Position)) (p n : Position) → Seen C table p → before C table n ≡ None
     → ¬ (place_of C p ≡ place_of C n)
-apart C table p n s e d = some_none (before C table n) s.0 e (ap (λ i. get_or table i None) (sym d) ∙ s.1)
+apart C table p n s e d = let f : before C table n ≡ Some s.0 = ap (λ i. get_or table i None) (sym d) ∙ s.1 in cc
 
 -- a rank with one value changed
 pub raised : (ℕ → ℕ) → ℕ → ℕ → ℕ → ℕ
@@ -66,3 +61,10 @@ raised_same rank n v i e = grind arith
 pub raised_other : (rank : ℕ → ℕ) (n v i : ℕ) → ¬ (i ≡ n) → raised rank n v i ≡ rank i
 unfolding raised
 raised_other rank n v i d = grind arith
+
+-- two positions that are told apart are not one
+pub unlike : (a b : Position) → true ≡ not (eqb a.group b.group && eqb a.clause b.clause) → ¬ (a ≡ b)
+unlike a b h e =
+    false≢true
+    (sym (ap₂ (λ x y. not (x && y)) (eq-eqb a.group b.group (ap (λ p. p.group) e)) (eq-eqb a.clause b.clause (ap (λ p. p.clause) e)))
+    ∙ sym h)

@@ -1,17 +1,13 @@
 -- The way back, step by step, and its positions written in order.
-use Rattle.std.proofs.Common.{◌≡◌, ℕ, suc, ◌+◌, ◌-◌, ◌<◌, ◌≤◌, List, [], ◌∷◌, ◌++◌, map, reverse, length, take, drop, set, Some, Option, sym, refl, ap, ◌∙◌, inl, inr, add-one, arith, length-set}
+use Rattle.std.proofs.Common.{◌≡◌, ℕ, suc, ◌+◌, ◌<◌, List, [], ◌∷◌, ◌++◌, map, reverse, length, take, drop, set, Some, Option, sym, refl, ap, ◌∙◌, inl, inr, add-one, arith, length-set}
 use Rattle.std.specs.List.{AllByRecursion}
 use Rattle.std.proofs.ByRecursion.{All-weaker}
 use Rattle.std.proofs.lemmas.List.{append_assoc, length_push, length-reverse, length-map, reverse-append, map_push, drop-set, reverse-reverse}
-use Rattle.systems.specs.Model.{Model}
-use Rattle.rules.specs.declared.syntax.Clause.{Clause}
 use Rattle.colours.specs.declared.chains.Position.{Position}
-use Rattle.colours.specs.declared.chains.Reason.{Reason}
-use Rattle.colours.specs.Boards.{positions}
 use Rattle.colours.specs.Walks.{Among}
 use Rattle.engine.specs.declared.links.Link.{Link}
-use Rattle.engine.specs.search.Searches.{graph, place_of, before, Found}
-use Rattle.engine.specs.search.Traces.{Traceable, Tracing, Traced, Writing, position_in, some_position}
+use Rattle.engine.specs.search.Searches.{place_of, before}
+use Rattle.engine.specs.search.Traces.{Tracing, Traced, Writing, position_in, some_position}
 use Rattle.engine.proofs.Tables.{place_same}
 
 reverse_more : {X : Type 0} (x : X) (xs : List X) → reverse (x ∷ xs) ≡ reverse xs ++ x ∷ []
@@ -21,20 +17,19 @@ reverse_push : {X : Type 0} (xs : List X) (x : X) → reverse (xs ++ x ∷ []) �
 reverse_push xs x = reverse-append xs (x ∷ [])
 
 -- one link more is taken out of the queue and written
-pub writing_more : (all : List Link) (l : Link) (kept : List Link) (left : ℕ) (list : List (Option Position))
-    → Writing all (l ∷ kept) left list → Writing all kept (left - 1) (set list (left - 1) (some_position l))
-writing_more all l kept left list w =
+pub writing_more : (all : List Link) (l : Link) (kept : List Link) (list : List (Option Position)) → Writing all (l ∷ kept) list
+    → Writing all kept (set list (length kept) (some_position l))
+writing_more all l kept list w =
     let one : length (w.done ++ l ∷ []) ≡ length w.done + 1 = length_push w.done l in
-    let low : left - 1 < length list = omega (arith, w.rest, w.fits) in
-    let next : left - 1 + 1 ≡ left = omega (arith, w.rest) in
+    let low : length kept < length list = omega (arith, w.fits) in
+    let next : length kept + 1 ≡ length (l ∷ kept) = omega arith in
     record {
       done = w.done ++ l ∷ [];
       split = w.split ∙ sym (append_assoc w.done (l ∷ []) kept);
-      rest = omega (arith, w.rest);
-      fits = omega (arith, w.rest, w.fits, one, length-set list (left - 1) (some_position l));
+      fits = omega (arith, w.fits, one, length-set list (length kept) (some_position l));
       written =
-          ap (λ n. take n (drop (left - 1) (set list (left - 1) (some_position l)))) (one ∙ add-one (length w.done))
-          ∙ ap (take (suc (length w.done))) (drop-set list (left - 1) (some_position l) low)
+          ap (λ n. take n (drop (length kept) (set list (length kept) (some_position l)))) (one ∙ add-one (length w.done))
+          ∙ ap (take (suc (length w.done))) (drop-set list (length kept) (some_position l) low)
           ∙ ap (λ n. some_position l ∷ take (length w.done) (drop n list)) next
           ∙ ap (λ x. some_position l ∷ x) w.written
           ∙ sym (ap (map some_position) (reverse_push w.done l));
@@ -48,13 +43,6 @@ not_among rank C p (q ∷ ps) h (inr a) = not_among rank C p ps h.1 a
 
 module _ (G C : ℕ) (start end : Position) (table : List (Option Position)) (places : ℕ) where
   module _ (at : Position) (kept : List Link) (t : Tracing G C start end table places at kept) where
-    kept_long : length kept ≡ length t.rest
-    kept_long = sym (length-map kept position_in) ∙ ap length t.are ∙ length-reverse t.rest
-
-    -- there is room in the queue for one more
-    pub tracing_room : length kept < places
-    tracing_room = omega (arith, kept_long, t.fits, t.room)
-
     module _ (d : ¬ (at ≡ start)) (from : Position) (e : before C table at ≡ Some from) where
       off_start : ¬ (place_of C at ≡ place_of C start)
       off_start f = d (place_same G C at start t.inside.0 t.ranked.inside f)
@@ -99,13 +87,6 @@ module _ (G C : ℕ) (start end : Position) (table : List (Option Position)) (pl
             ∙ sym (reverse_more start t.rest);
         fits = omega (arith, t.fits);
       }
-
--- what was found can be traced
-pub traceable : (M : Model) (cs : List Clause) (board : List ℕ) (start : Position) (table : List (Option Position)) (p : Position) (reason : Reason)
-    → Found (graph M cs board) start table p reason → (places : ℕ) → positions M cs ≤ places
-    → Traceable M.states (length cs) start table p places
-traceable M cs board start table p reason found places h =
-    record { rank = found.rooted.0; ranked = found.rooted.1; here = found.here; room = h }
 
 map_some : (kept : List Link) → map some_position kept ≡ map Some (map position_in kept)
 map_some [] = refl

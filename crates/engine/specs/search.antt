@@ -3,3 +3,4 @@ pub mod Looks
 pub mod Searches
 pub mod Traces
 pub mod Starts
+pub mod Scenes

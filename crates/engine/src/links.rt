@@ -2,7 +2,7 @@
 use colours::Position;
 
 // A position with the one before it.
-#[derive(Clone, Copy)]
+#[derive(Clone, Copy, PartialEq, Eq, Debug)]
 pub struct Link {
     pub at: Position,
     pub from: Position,

@@ -21,22 +21,12 @@ fn two_groups() -> Result<Table, Refusal> {
     Table::from_parts(2, 2, steps, values, starts)
 }
 
-// The kind of the end (1 a mark, 2 a step), its two numbers and the length of the chain.
-fn told(answer: Option<(Reason, usize)>) -> (u8, usize, usize, usize) {
-    match answer {
-        Some((reason, length)) => match reason {
-            Reason::UnknownMark { group, mark } => (1, group, mark, length),
-            Reason::UnsureStep { group, target } => (2, group, target, length),
-        },
-        None => (0, 0, 0, 0),
-    }
-}
-
+// What the chain ends in and its length.
 fn seek(
     text: &[u8],
     board: &[u8],
     chain: &mut [Option<Position>],
-) -> Result<(u8, usize, usize, usize), Fail> {
+) -> Result<Option<(Reason, usize)>, Fail> {
     let table = two_groups()?;
     let rule = read(text)?;
     let first = Position {
@@ -48,7 +38,7 @@ fn seek(
         from: first,
     }; 6];
     let mut links = Ring::new(&mut slots);
-    Ok(told(find_cause(&table, &rule, board, &mut links, chain)))
+    Ok(find_cause(&table, &rule, board, &mut links, chain))
 }
 
 #[test]
@@ -56,7 +46,13 @@ fn ends_in_an_unsure_step(rt: HostRuntime) -> Result<(), Fail> {
     let mut chain = [None; 6];
     assert_eq!(rt;
         seek(b"AFp0", &[2, 1, 0, 2, 2, 2], &mut chain)?,
-        (2, 0, 0, 1)
+        Some((
+            Reason::UnsureStep {
+                group: 0,
+                target: 0
+            },
+            1
+        ))
     );
     Ok(())
 }
@@ -66,24 +62,23 @@ fn goes_on_to_an_unknown_mark(rt: HostRuntime) -> Result<(), Fail> {
     let mut chain = [None; 6];
     assert_eq!(rt;
         seek(b"(1 & p1)", &[2, 0, 0, 2, 0, 0], &mut chain)?,
-        (1, 0, 1, 2)
+        Some((Reason::UnknownMark { group: 0, mark: 1 }, 2))
     );
-    let second = chain[1].ok_or("no second position")?;
-    assert_eq!(rt; (second.group, second.clause), (0, 1));
+    assert_eq!(rt;
+        chain[1],
+        Some(Position {
+            group: 0,
+            clause: 1
+        })
+    );
     Ok(())
 }
 
 #[test]
 fn finds_none(rt: HostRuntime) -> Result<(), Fail> {
     let mut chain = [None; 6];
-    assert_eq!(rt;
-        seek(b"EFp0", &[2, 1, 2, 2, 2, 2], &mut chain)?,
-        (0, 0, 0, 0)
-    );
+    assert_eq!(rt; seek(b"EFp0", &[2, 1, 2, 2, 2, 2], &mut chain)?, None);
     let mut short = [None; 5];
-    assert_eq!(rt;
-        seek(b"AFp0", &[2, 1, 0, 2, 2, 2], &mut short)?,
-        (0, 0, 0, 0)
-    );
+    assert_eq!(rt; seek(b"AFp0", &[2, 1, 0, 2, 2, 2], &mut short)?, None);
     Ok(())
 }

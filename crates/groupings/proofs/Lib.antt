@@ -1,6 +1,8 @@
+pub mod Made
+pub mod Reduced
 pub mod Lists
-pub mod Joins
-pub mod Rows
+pub mod Strengths
+pub mod Sharing
 pub mod Tabling
 pub mod Pigeons
 pub mod Moves

@@ -1,23 +1,30 @@
 -- Flagging the members that do not answer as the lowest-numbered one does splits the group as it should.
-use Rattle.std.proofs.Common.{◌≡◌, ℕ, ◌<◌, Bool, true, false, List, length, Some, Ok, sym, refl, ap, ◌∙◌, subst, ⊎_elim, arith}
-use Rattle.std.proofs.lemmas.Bool.{cases_eq, both_ways, eq-eqb, ne_eqb, eqb-true, eqb-false, and_parts, and_from, and_left, and_right, not-true, not_from_true, not_from_false, cond-true, cond-false}
-use Rattle.systems.specs.Below.{any_below}
+use Rattle.std.proofs.Common.{◌≡◌, ℕ, zero, suc, ◌+◌, ◌<◌, ◌≤◌, ◌⊎◌, Decides, Bool, true, false, List, [], ◌∷◌, length, Option, Some, None, Ok, sym, refl, ap, ◌∙◌, subst, inl, inr, ⊎_elim, add-one, arith}
+use Rattle.std.specs.List.{list_any}
+use Rattle.std.specs.Option.{ok_or}
+use Rattle.std.proofs.lemmas.Bool.{cases_Bool, cases_eq, cases_lt, both_ways, eq-eqb, cond-true, cond-false}
+use Rattle.std.proofs.lemmas.Bool.Decides.{Decides-like}
+use Rattle.std.proofs.lemmas.List.{get_or_past}
 use Rattle.systems.specs.Model.{Model}
 use Rattle.systems.specs.Numbers.{step_number, step_from, colour_number, colour_from}
-use Rattle.systems.specs.laws.TableLaws.{any_at, any_from}
 use Rattle.systems.specs.declared.kinds.Step.{Step}
 use Rattle.systems.specs.declared.kinds.Step.TheVariants.{Absent, Unsure, Sure}
 use Rattle.systems.specs.declared.kinds.Colour.{Colour}
 use Rattle.systems.specs.declared.kinds.Colour.TheVariants.{Undecided, F, T}
-use Rattle.colours.specs.Groupings.{Alike, group_named}
+use Rattle.colours.specs.Groupings.{Alike, group_named, strength}
 use Rattle.colours.specs.declared.chains.Reason.{Reason}
 use Rattle.colours.specs.declared.chains.Reason.TheVariants.{UnknownMark, UnsureStep}
+use Rattle.systems.proofs.Questions.{mark_in_range}
+use Rattle.groupings.specs.Answers.{answer_of}
+use Rattle.groupings.specs.Joined.{asked}
+use Rattle.groupings.proofs.Strengths.{strength_known}
 use Rattle.groupings.specs.Members.{group_of, group_count, AllUsed, flagged, Moved}
 use Rattle.groupings.specs.Grouped.{Split}
 use Rattle.groupings.specs.Memberships.{groups_of, groups_in}
 use Rattle.groupings.specs.laws.GroupLaws.{states_are}
+use Rattle.groupings.specs.declared.groups.answers.Answer.TheVariants.{Mark, Strength}
 use Rattle.groupings.specs.declared.members.Membership.{Membership}
-use Rattle.groupings.specs.Splits.{Within, answer_number, Concerned, MembersDiffer, Divided, Told}
+use Rattle.groupings.specs.Splits.{Within, Concerned, MembersDiffer, Divided, Told}
 
 step_back : (k : Step) → step_from (step_number k) ≡ Some k
 step_back Absent = refl
@@ -35,60 +42,96 @@ same_step a b e = let both : Some a ≡ Some b = sym (step_back a) ∙ ap step_f
 same_colour : (a b : Colour) → colour_number a ≡ colour_number b → a ≡ b
 same_colour a b e = let both : Some a ≡ Some b = sym (colour_back a) ∙ ap colour_from e ∙ colour_back b in cc
 
-module _ (M : Model) (group : ℕ → ℕ) where
-  same_number : (reason : Reason) (s t : ℕ) → Alike M group reason s t → answer_number M group reason s ≡ answer_number M group reason t
-  same_number (UnknownMark g p) s t e = ap colour_number e
-  same_number (UnsureStep g h) s t e = ap step_number e
+-- a flag among the flags
+found_flag : (flags : List Bool) → list_any (λ b. b) flags ≡ true → (s : ℕ) × (flagged flags s ≡ true)
+found_flag [] e = absurd (both_ways false refl e)
+found_flag (true ∷ flags) e = (0, refl)
+found_flag (false ∷ flags) e = let rest = found_flag flags e in (rest.0 + 1, rw add-one rest.1)
 
-  alike : (reason : Reason) (s t : ℕ) → answer_number M group reason s ≡ answer_number M group reason t → Alike M group reason s t
-  alike (UnknownMark g p) s t e = same_colour _ _ e
-  alike (UnsureStep g h) s t e = same_step _ _ e
+flag_found : (flags : List Bool) (s : ℕ) → flagged flags s ≡ true → list_any (λ b. b) flags ≡ true
+flag_found [] s e = absurd (both_ways false refl e)
+flag_found (true ∷ flags) s e = refl
+flag_found (false ∷ flags) zero e = absurd (both_ways false refl e)
+flag_found (false ∷ flags) (suc s) e = flag_found flags s e
+
+module _ (M : Model) (group : ℕ → ℕ) where
+  pub alike_told : (reason : Reason) (s t : ℕ) → Alike M group reason s t → answer_of M group reason s ≡ answer_of M group reason t
+  alike_told (UnknownMark g p) s t e = ap Mark e
+  alike_told (UnsureStep g h) s t e = ap Strength e
+
+  pub told_alike : (reason : Reason) (s t : ℕ) → answer_of M group reason s ≡ answer_of M group reason t → Alike M group reason s t
+  told_alike (UnknownMark g p) s t e = cc
+  told_alike (UnsureStep g h) s t e = cc
+
+  alike_or_not : (reason : Reason) (s t : ℕ) → Alike M group reason s t ⊎ (¬ Alike M group reason s t)
+  alike_or_not (UnknownMark g p) s t = ⊎_elim (λ e. inl (same_colour _ _ e)) (λ n. inr (λ e. n (ap colour_number e))) (cases_eq (colour_number (M.mark s p)) (colour_number (M.mark t p)))
+  alike_or_not (UnsureStep g h) s t = ⊎_elim (λ e. inl (same_step _ _ e)) (λ n. inr (λ e. n (ap step_number e))) (cases_eq (step_number (strength M group s h)) (step_number (strength M group t h)))
+
+  through : (reason : Reason) (l s t : ℕ) → Alike M group reason l s → Alike M group reason l t → Alike M group reason s t
+  through (UnknownMark g p) l s t a b = sym a ∙ b
+  through (UnsureStep g h) l s t a b = sym a ∙ b
+
+  itself : (reason : Reason) (s : ℕ) → Alike M group reason s s
+  itself (UnknownMark g p) s = refl
+  itself (UnsureStep g h) s = refl
 
   -- the group of a reason within so many groups is one of them
   pub group_within : (reason : Reason) (groups : ℕ) → Within groups M.marks reason → group_named reason < groups
   group_within (UnknownMark g p) groups w = w.0
   group_within (UnsureStep g h) groups w = w.0
 
+-- a state that there is gives the answers that it is asked for
+answer_known : (M : Model) (group : ℕ → ℕ) (reason : Reason) (groups s : ℕ) → Within groups M.marks reason → s < M.states → answer_of (asked M) group reason s ≡ answer_of M group reason s
+answer_known M group (UnknownMark g p) groups s w l = ap Mark (mark_in_range M s l p w.1)
+answer_known M group (UnsureStep g h) groups s w l = ap Strength (strength_known M group s h l)
+
+module _ (M : Model) (reason : Reason) (xs : List ℕ) (flags : List Bool) (lead : ℕ) (within : Within (group_count xs) M.marks reason) (low : lead < M.states) where
+  -- flags at 128 states tell of all states
+  pub told_at :
+      M.states ≤ 128 → length flags ≡ 128
+      → ((s : ℕ) → s < 128 → Decides (flagged flags s) (Concerned M reason xs s × ¬ (answer_of (asked M) (group_of xs) reason s ≡ answer_of (asked M) (group_of xs) reason lead)))
+      → (s : ℕ) → Decides (flagged flags s) (Concerned M reason xs s × ¬ Alike M (group_of xs) reason lead s)
+  told_at few long at s =
+      let known = λ (t : ℕ) (l : t < M.states). answer_known M (group_of xs) reason (group_count xs) t within l in
+      ⊎_elim
+      (λ (l : s < 128).
+      Decides-like (flagged flags s) (λ p. (p.0, λ a. p.1 (known s p.0.0 ∙ sym (alike_told M (group_of xs) reason lead s a) ∙ sym (known lead low))))
+      (λ p. (p.0, λ e. p.1 (told_alike M (group_of xs) reason lead s (sym (known lead low) ∙ sym e ∙ known s p.0.0)))) (at s l))
+      (λ (l : 128 ≤ s).
+      ((λ e. absurd (both_ways (flagged flags s) (get_or_past flags s false (omega arith)) e)), (λ p. absurd (omega (arith, p.0.0)))))
+      (cases_lt s 128)
+
 module _ (M : Model) (reason : Reason) (xs : List ℕ) (flags : List Bool) (fits : length xs ≡ M.states) (told : Told M reason xs flags) where
-  leaving : (s : ℕ) → Concerned M reason xs s → ¬ Alike M (group_of xs) reason told.lead s → flagged flags s ≡ true
-  leaving s m n =
-      told.at s m.0
-      ∙ and_from _ _ (eq-eqb (group_of xs s) (group_named reason) m.1) (not_from_false _ (ne_eqb _ _ (λ e. n (alike M (group_of xs) reason told.lead s (sym e)))))
+  unflagged : (s : ℕ) → ¬ (flagged flags s ≡ true) → flagged flags s ≡ false
+  unflagged s n = ⊎_elim (λ e. absurd (n e)) (λ e. e) (cases_Bool (flagged flags s))
 
-  staying : (s : ℕ) → s < M.states → Alike M (group_of xs) reason told.lead s → flagged flags s ≡ false
-  staying s l a = told.at s l ∙ and_right _ _ (not_from_true _ (eq-eqb _ _ (sym (same_number M (group_of xs) reason told.lead s a))))
+  staying : (s : ℕ) → Alike M (group_of xs) reason told.lead s → flagged flags s ≡ false
+  staying s a = unflagged s (λ e. ((told.at s).0 e).1 a)
 
-  elsewhere : (s : ℕ) → s < M.states → ¬ Concerned M reason xs s → flagged flags s ≡ false
-  elsewhere s l n = told.at s l ∙ and_left _ _ (ne_eqb (group_of xs s) (group_named reason) (λ e. n (l, e)))
-
-  flag_tells : (s : ℕ) → s < M.states → flagged flags s ≡ true → Concerned M reason xs s × ¬ Alike M (group_of xs) reason told.lead s
-  flag_tells s l e =
-      let parts = and_parts _ _ (sym (told.at s l) ∙ e) in (
-        (l, eqb-true (group_of xs s) (group_named reason) parts.0),
-        λ a. eqb-false _ _ (not-true _ parts.1) (sym (same_number M (group_of xs) reason told.lead s a)),
-      )
+  elsewhere : (s : ℕ) → ¬ Concerned M reason xs s → flagged flags s ≡ false
+  elsewhere s n = unflagged s (λ e. n ((told.at s).0 e).0)
 
   -- where none is flagged, all members answer alike
-  pub none_differ : any_below (flagged flags) (length xs) ≡ false → ¬ MembersDiffer M reason xs
+  pub none_differ : list_any (λ b. b) flags ≡ false → ¬ MembersDiffer M reason xs
   none_differ none differ =
-      let as_lead : (s : ℕ) → Concerned M reason xs s → answer_number M (group_of xs) reason s ≡ answer_number M (group_of xs) reason told.lead = λ s m.
+      let as_lead : (s : ℕ) → Concerned M reason xs s → Alike M (group_of xs) reason told.lead s = λ s m.
       ⊎_elim
-      (λ e. e)
-      (λ n.
-      absurd (both_ways (any_below (flagged flags) (length xs)) none
-      (any_from (flagged flags) (length xs) s (omega (arith, m.0))
-      (leaving s m (λ a. n (sym (same_number M (group_of xs) reason told.lead s a)))))))
-      (cases_eq _ _) in
-      differ.4 (alike M (group_of xs) reason differ.0 differ.1 (as_lead differ.0 differ.2 ∙ sym (as_lead differ.1 differ.3)))
+      (λ a. a)
+      (λ n. absurd (both_ways (list_any (λ b. b) flags) none (flag_found flags s ((told.at s).1 (m, n)))))
+      (alike_or_not M (group_of xs) reason told.lead s) in
+      differ.4 (through M (group_of xs) reason told.lead differ.0 differ.1 (as_lead differ.0 differ.2) (as_lead differ.1 differ.3))
 
   -- where one is flagged, two differ
-  pub one_leaves : any_below (flagged flags) (length xs) ≡ true → (s : ℕ) × (s < length xs) × (flagged flags s ≡ true)
-  one_leaves some = any_at (flagged flags) (length xs) some
+  pub one_leaves : list_any (λ b. b) flags ≡ true → (s : ℕ) × (s < length xs) × (flagged flags s ≡ true)
+  one_leaves some =
+      let one = found_flag flags some in
+      let tells = (told.at one.0).0 one.1 in
+      (one.0, omega (arith, tells.0.0), one.1)
 
-  pub two_differ : any_below (flagged flags) (length xs) ≡ true → MembersDiffer M reason xs
+  pub two_differ : list_any (λ b. b) flags ≡ true → MembersDiffer M reason xs
   two_differ some =
-      let one = one_leaves some in
-      let tells = flag_tells one.0 (omega (arith, one.1)) one.2 in
+      let one = found_flag flags some in
+      let tells = (told.at one.0).0 one.1 in
       (told.lead, one.0, told.member, tells.0, tells.1)
 
   -- every group keeps a member
@@ -96,10 +139,10 @@ module _ (M : Model) (reason : Reason) (xs : List ℕ) (flags : List Bool) (fits
   one_stays used h l =
       ⊎_elim
       (λ (e : h ≡ group_named reason).
-      (told.lead, omega (arith, told.member.0), told.member.1 ∙ sym e, staying told.lead told.member.0 (alike M (group_of xs) reason told.lead told.lead refl)))
+      (told.lead, omega (arith, told.member.0), told.member.1 ∙ sym e, staying told.lead (itself M (group_of xs) reason told.lead)))
       (λ (n : h ≡ group_named reason → ⊥).
       let u = used h l in
-      (u.0, u.1, u.2, elsewhere u.0 (omega (arith, u.1)) (λ m. n (sym u.2 ∙ m.1))))
+      (u.0, u.1, u.2, elsewhere u.0 (λ m. n (sym u.2 ∙ m.1))))
       (cases_eq h (group_named reason))
 
   pub moved_divided : (ys : List ℕ) → Moved flags xs ys → Divided M reason xs ys
@@ -108,9 +151,9 @@ module _ (M : Model) (reason : Reason) (xs : List ℕ) (flags : List Bool) (fits
     lead = told.lead;
     member = told.member;
     lowest = told.lowest;
-    others = λ s l n. moved.1 s (omega arith) ∙ cond-false _ _ _ (elsewhere s l n);
-    stays = λ s m a. moved.1 s (omega (arith, m.0)) ∙ cond-false _ _ _ (staying s m.0 a);
-    leaves = λ s m n. moved.1 s (omega (arith, m.0)) ∙ cond-true _ _ _ (leaving s m n);
+    others = λ s l n. moved.1 s (omega arith) ∙ cond-false _ _ _ (elsewhere s n);
+    stays = λ s m a. moved.1 s (omega (arith, m.0)) ∙ cond-false _ _ _ (staying s a);
+    leaves = λ s m n. moved.1 s (omega (arith, m.0)) ∙ cond-true _ _ _ ((told.at s).1 (m, n));
   }
 
 -- a membership for n states says what it says of n
@@ -124,3 +167,7 @@ pub split_accepted :
 split_accepted M reason before xs after e all within differ divided =
     subst (λ (b : List ℕ). Split M reason b (groups_in after M.states) (Ok tt)) e
     (within, differ, subst (Divided M reason xs) (sym (fits_itself after M.states (divided.same_states ∙ all))) divided)
+
+pub some_from_ok : {X E : Type 0} (o : Option X) (e : E) (x : X) → ok_or o e ≡ Ok x → o ≡ Some x
+some_from_ok None e x h = cc
+some_from_ok (Some y) e x h = cc

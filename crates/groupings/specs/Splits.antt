@@ -1,10 +1,9 @@
 -- Splitting a group by a reason: an unknown mark, or an unsure step to a target.
-use Rattle.std.specs.Prelude.{◌≡◌, ℕ, ◌<◌, Bool, not, ◌&&◌, ◌⊎◌, List, length, ◌==◌}
+use Rattle.std.specs.Prelude.{◌≡◌, ℕ, ◌<◌, Bool, ◌⊎◌, List, length, Decides}
 use Rattle.systems.specs.Model.{Model}
-use Rattle.systems.specs.Numbers.{step_number, colour_number}
 use Rattle.systems.specs.declared.refusals.Refusal.{Refusal}
 use Rattle.systems.specs.declared.refusals.Refusal.TheVariants.{SlipBeyondStudy, MembersAgree}
-use Rattle.colours.specs.Groupings.{strength, Member, Alike, group_named, Parted}
+use Rattle.colours.specs.Groupings.{Member, Alike, group_named, Parted}
 use Rattle.colours.specs.declared.chains.Reason.{Reason}
 use Rattle.colours.specs.declared.chains.Reason.TheVariants.{UnknownMark, UnsureStep}
 use Rattle.groupings.specs.Members.{group_of, group_count, flagged}
@@ -13,15 +12,6 @@ use Rattle.groupings.specs.Members.{group_of, group_count, flagged}
 abbrev pub Within : (groups marks : ℕ) → Reason → Type 0
 Within groups marks (UnknownMark g p) = (g < groups) × (p < marks)
 Within groups marks (UnsureStep g h) = (g < groups) × (h < groups)
-
--- the answer of the state s by its number: that of its mark, or of its strength into the target
-abbrev pub answer_number : Model → (ℕ → ℕ) → Reason → ℕ → ℕ
-answer_number M group (UnknownMark g p) s = colour_number (M.mark s p)
-answer_number M group (UnsureStep g h) s = step_number (strength M group s h)
-
--- s is in the group g and has another answer than a, as a test
-abbrev pub departs : Model → (ℕ → ℕ) → Reason → (g a s : ℕ) → Bool
-departs M group reason g a s = group s == g && not (answer_number M group reason s == a)
 
 module _ (M : Model) (reason : Reason) (xs : List ℕ) where
   abbrev pub Exists : Type 0
@@ -50,7 +40,7 @@ module _ (M : Model) (reason : Reason) (xs : List ℕ) where
     pub lead : ℕ
     pub member : Concerned lead
     pub lowest : (s : ℕ) → s < lead → ¬ Concerned s
-    pub at : (s : ℕ) → s < M.states → flagged flags s ≡ departs M (group_of xs) reason (group_named reason) (answer_number M (group_of xs) reason lead) s
+    pub at : (s : ℕ) → Decides (flagged flags s) (Concerned s × ¬ Alike M (group_of xs) reason lead s)
 
   -- the first condition that a split breaks
   abbrev pub RefusedSplit : Refusal → Type 0

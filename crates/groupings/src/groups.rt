@@ -3,11 +3,15 @@ ghost use Rattle.std.specs.Prelude.{◌≡◌, replicate};
 ghost use Rattle.groupings.specs.Grouped.{groups_at, KeptIfRefused, Regrouped};
 ghost use Rattle.groupings.specs.Memberships.{groups_of};
 
+use self::fitted::Fitted;
 use crate::members::Membership;
 use systems::{Refusal, System};
 
 mod answering;
+mod answers;
+mod fitted;
 mod joining;
+mod sharing;
 mod splitting;
 mod writing;
 
@@ -44,8 +48,20 @@ impl<S: System> Grouping<S> {
         self.members.fitted(self.system.states())
     }
 
+    // The system below with the groups of its states.
+    fn fitted(&self) -> Fitted<'_, S>
+        ensures below { result.system.now ≡ self.now.system }
+        ensures groups { groups_of result.members ≡ groups_at S.System.meaning self.now }
+    {
+        Fitted {
+            system: &self.system,
+            members: self.members(),
+        }
+    }
+
     // Replaces the groups by a list of them: refused where there is not one byte for each state,
     // each below their number (13), or a number up to the largest is not used (14).
+    #[tactic(auto, using(crate::proofs::Lists::refused_list))]
     pub fn regroup(&mut self, bytes: &[u8]) -> Result<(), Refusal>
         ensures below { self.new.system ≡ self.old.system }
         ensures answer { Regrouped (S.System.meaning self.old.system).states bytes.now (groups_at S.System.meaning self.new) result }

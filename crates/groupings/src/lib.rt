@@ -1,7 +1,6 @@
 // Groupings: systems whose states are groups of the states of a system below.
 #![tactic(auto)]
 
-mod asking;
 pub mod groups;
 pub mod members;
 

@@ -1,5 +1,5 @@
 -- With room a cause is accepted exactly when the verdict is undecided, and its answer explains why.
-use Rattle.std.proofs.Common.{◌≡◌, ℕ, List, [], ◌∷◌, length, sym, ap, ◌∙◌, subst, inl, inr, arith}
+use Rattle.std.proofs.Common.{◌≡◌, ℕ, List, [], ◌∷◌, length, sym, ap, ◌∙◌, subst, inl, inr}
 use Rattle.systems.specs.declared.kinds.Colour.TheVariants.{Undecided}
 use Rattle.systems.specs.declared.refusals.Refusal.TheVariants.{VerdictDecided}
 use Rattle.systems.specs.Model.{Model}
@@ -14,7 +14,6 @@ use Rattle.law.specs.Ledgers.{Ledger, model, verdict}
 use Rattle.law.specs.Calls.{Call, set_rule, regroup, judge, look, cause, split, Answer, refused, done, judged, looked, caused, Reply, Roomy, Agrees, accepts, refuses}
 use Rattle.law.specs.Runs.{Event, Agreed}
 use Rattle.law.specs.Laws.{UndecidedVerdict, Explains, GivesCause, Causes}
-use Rattle.law.proofs.Numbers.{kind}
 
 pub undecided_verdict : (M : Model) (l : Ledger) → verdict M l ≡ Undecided → UndecidedVerdict M l
 undecided_verdict M l e = subst (HasVerdict (model M l) (whole l.rule)) e (one_verdict (model M l) (whole l.rule)).0
@@ -61,7 +60,7 @@ module _ (M : Model) (l : Ledger) (reply : Reply) (r : Ledger) where
   module _ (slip : Reason) (told : ℕ) (chain : List Position) where
     -- the answer of a cause
     pub explained : (c : Call) → Agrees M l c reply r → reply.answer ≡ caused slip told chain → UndecidedVerdict M l × Explains M l slip told chain
-    explained c (refuses x f a) e = absurd (let k = ap kind (sym a.0 ∙ e) in omega (arith, k))
+    explained c (refuses x f a) e = cc (sym a.0 ∙ e)
     explained (cause b q n k) (accepts h a) e =
         let c = a.2 in
         let same = sym e ∙ c.3 in (
@@ -71,11 +70,11 @@ module _ (M : Model) (l : Ledger) (reply : Reply) (r : Ledger) where
             (c.1, c.2, ap chain_told same, subst (Cause (model M l) l.rule c.1 c.2) (sym (ap slip_told same)) c.4),
           ),
         )
-    explained (set_rule x) (accepts h a) e = absurd (let k = ap kind (sym (ap (λ y. y.answer) a.0) ∙ e) in omega (arith, k))
-    explained (regroup xs) (accepts h a) e = absurd (let k = ap kind (sym (ap (λ y. y.answer) a.0) ∙ e) in omega (arith, k))
-    explained (judge m q) (accepts h a) e = absurd (let k = ap kind (sym a.2 ∙ e) in omega (arith, k))
-    explained (look m q s c) (accepts h a) e = absurd (let k = ap kind (sym a.2 ∙ e) in omega (arith, k))
-    explained (split x) (accepts h a) e = absurd (let k = ap kind (sym (ap (λ y. y.answer) a.0) ∙ e) in omega (arith, k))
+    explained (set_rule x) (accepts h a) e = cc (sym (ap (λ y. y.answer) a.0) ∙ e)
+    explained (regroup xs) (accepts h a) e = cc (sym (ap (λ y. y.answer) a.0) ∙ e)
+    explained (judge m q) (accepts h a) e = cc (sym a.2 ∙ e)
+    explained (look m q s c) (accepts h a) e = cc (sym a.2 ∙ e)
+    explained (split x) (accepts h a) e = cc (sym (ap (λ y. y.answer) a.0) ∙ e)
 
 pub causes : (M : Model) (e : Event) → Agreed M e → Causes M e
 causes M e g = record {

@@ -13,21 +13,13 @@ use Rattle.colours.specs.declared.chains.Reason.{Reason}
 use Rattle.colours.specs.declared.chains.Reason.TheVariants.{UnknownMark, UnsureStep}
 use Rattle.colours.specs.Groupings.{Alike, group_named}
 use Rattle.colours.proofs.Lists.{least}
+use Rattle.colours.proofs.Deciding.{not?, and?}
 use Rattle.groupings.specs.Members.{group_of, group_count, OneForEach, AllUsed}
 use Rattle.groupings.specs.Splits.{Exists, MembersDiffer, Concerned}
 use Rattle.law.specs.Ledgers.{Ledger, places, verdict}
 use Rattle.law.specs.Calls.{Call, set_rule, regroup, judge, look, cause, split, Condition, Roomy, AllHold, FirstFailing, conditions}
 use Rattle.law.proofs.Numbers.{same_colour?}
 use Rattle.law.proofs.Soundness.{alike?}
-
-not? : {P : Type 0} → Dec P → Dec (¬ P)
-not? (yes p) = no (λ k. k p)
-not? (no k) = yes k
-
-and? : {P Q : Type 0} → Dec P → Dec Q → Dec (P × Q)
-and? (yes p) (yes q) = yes (p, q)
-and? (yes p) (no k) = no (λ h. k h.1)
-and? (no k) d = no (λ h. k h.0)
 
 all? : {X : Type 0} (P : X → Type 0) → ((x : X) → Dec (P x)) → (xs : List X) → Dec (AllByRecursion P xs)
 all? P p? [] = yes tt

@@ -2,13 +2,12 @@
 use Rattle.std.proofs.Common.{◌≡◌, ℕ, zero, suc, ◌*◌, ◌/◌, ◌%◌, ◌<◌, ◌≤◌, List, [], ◌∷◌, map, length, sym, refl, ap, ◌∙◌, ap₂, inl, inr, arith}
 use lib.Arith.{digits_lt, digits_div, digits_mod}
 use Rattle.std.specs.List.{AllByRecursion}
-use Rattle.std.proofs.ByRecursion.{All-map, All-weaker}
 use Rattle.std.proofs.lemmas.List.{length-map}
 use Rattle.colours.specs.declared.chains.Position.{Position}
 use Rattle.colours.specs.Walks.{Among, Distinct}
 use Rattle.colours.specs.Boards.{place}
 use Rattle.colours.proofs.Chaining.{undecided_verdict_has_a_cause}
-use Rattle.colours.proofs.Lists.{below, among_below, drop_at, length_drop_at, among_drop_at}
+use Rattle.colours.proofs.Lists.{below, among_below, all_weaker, drop_at, length_drop_at, among_drop_at}
 use Rattle.groupings.specs.Members.{group_count}
 use Rattle.law.specs.Ledgers.{model}
 use Rattle.law.specs.Theorems.{HasACause}
@@ -53,15 +52,17 @@ module _ (groups clauses : ℕ) where
   distinct_places [] a d = tt
   distinct_places (p ∷ ps) a d = ((λ m. d.0 (among_places p ps a.0 a.1 m)), distinct_places ps a.1 d.1)
 
+  inside : (ps : List Position) → AllByRecursion InRange ps → AllByRecursion (λ k. Among k (below (groups * clauses))) (map place_of ps)
+  unfolding place_of
+  inside [] a = tt
+  inside (p ∷ ps) a = (among_below (groups * clauses) (place_of p) (digits_lt a.0.0 a.0.1), inside ps a.1)
+
   fits_board : (ps : List Position) → AllByRecursion InRange ps → Distinct ps → length ps ≤ groups * clauses
   unfolding place_of
   fits_board ps a d =
-      let inside = All-map (λ k. Among k (below (groups * clauses))) place_of ps
-      (All-weaker InRange (λ p. Among (place_of p) (below (groups * clauses)))
-      (λ p h. among_below (groups * clauses) (place_of p) (digits_lt h.0 h.1)) ps a) in
       omega (
         arith,
-        no_more_than (map place_of ps) (below (groups * clauses)) (distinct_places ps a d) inside,
+        no_more_than (map place_of ps) (below (groups * clauses)) (distinct_places ps a d) (inside ps a),
         length_below (groups * clauses),
         length-map ps place_of,
       )
@@ -75,6 +76,6 @@ has_a_cause M l w u =
       chain,
       (refl, (x.0, x.1, refl, x.3)),
       fits_board (group_count l.groups) (length l.rule) chain
-          (All-weaker _ (InRange (group_count l.groups) (length l.rule)) (λ p h. (h.0, h.1)) chain x.3.chain.undecided)
+          (all_weaker _ (InRange (group_count l.groups) (length l.rule)) (λ p h. (h.0, h.1)) chain x.3.chain.undecided)
           x.3.chain.different,
     )

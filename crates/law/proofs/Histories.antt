@@ -7,7 +7,6 @@ use Rattle.law.specs.Ledgers.{Ledger, Sound}
 use Rattle.law.specs.Calls.{Call, set_rule, regroup, judge, look, cause, split, Agrees, accepts, refuses}
 use Rattle.law.specs.Runs.{Event, Agreed, Run, ledger_after}
 use Rattle.law.specs.Laws.{Splits, Neither, Splitting, none, one_more, no_more}
-use Rattle.law.proofs.Numbers.{kind}
 use Rattle.law.proofs.Soundness.{agreed_sound, divided_count}
 
 -- a run in two parts
@@ -63,7 +62,7 @@ module _ (M : Model) where
     where
       go : Agrees M e.before (split slip) e.reply e.after → group_count e.after.groups ≡ group_count e.before.groups + 1
       go (accepts h a) = divided_count M e.before.groups w.for_each slip e.after.groups a.2 w.used h.1.0
-      go (refuses x f a) = absurd (let k = ap kind (sym a.0 ∙ ok) in omega (arith, k))
+      go (refuses x f a) = cc (sym a.0 ∙ ok)
 
   pub counted : (l : Ledger) (k : ℕ) (es : List Event) → Sound M l → Run M l es → Splitting k es
       → group_count (ledger_after l es).groups ≡ k + group_count l.groups

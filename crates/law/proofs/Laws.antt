@@ -1,10 +1,9 @@
 -- Every run keeps the laws; runs grow by calls, and every list of calls makes one.
 use Rattle.std.proofs.Common.{◌≡◌, List, [], ◌∷◌, ◌++◌, map, sym, refl, ap, ◌∙◌, subst}
 use Rattle.std.specs.List.{AllByRecursion}
-use Rattle.std.proofs.ByRecursion.{All-weaker}
 use Rattle.std.proofs.lemmas.List.{map-append}
 use Rattle.systems.specs.Model.{Model}
-use Rattle.colours.proofs.Lists.{all_among}
+use Rattle.colours.proofs.Lists.{all_among, all_weaker}
 use Rattle.law.specs.Ledgers.{Ledger, fresh, Sound}
 use Rattle.law.specs.Calls.{Call}
 use Rattle.law.specs.Runs.{ledger_after, Event, Agreed, Run}
@@ -30,12 +29,12 @@ good M l (e ∷ es) w run =
 pub runs_keep_laws : RunsKeepLaws
 runs_keep_laws M l w es run =
     let all = good M l es w run in
-    let true = All-weaker (Good M) (Truthful M) (λ e g. truthful M e g.0) es all in
+    let true = all_weaker (Good M) (Truthful M) (λ e g. truthful M e g.0) es all in
     record {
-      sound = All-weaker (Good M) (λ e. Sound M e.before × Sound M e.after) (λ e g. g.1) es all;
+      sound = all_weaker (Good M) (λ e. Sound M e.before × Sound M e.after) (λ e g. g.1) es all;
       truth = true;
       no_contradiction = λ e d x y. compatible M e d (all_among (Truthful M) e es true x) (all_among (Truthful M) d es true y);
-      causes = All-weaker (Good M) (Causes M) (λ e g. causes M e g.0) es all;
+      causes = all_weaker (Good M) (Causes M) (λ e g. causes M e g.0) es all;
       bounded = bounded M l es w run;
       progress = progress M l es w run;
     }

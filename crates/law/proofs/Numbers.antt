@@ -1,4 +1,4 @@
--- Colours and steps are told apart by their numbers, answers by their kinds.
+-- Colours and steps are told apart by their numbers.
 use Rattle.std.proofs.Common.{◌≡◌, ℕ, zero, suc, sym, refl, ap, ◌∙◌}
 use native.Mathlib.Decide.{ℕ_discrete, map_dec}
 use Rattle.systems.specs.declared.kinds.Colour.{Colour}
@@ -6,7 +6,6 @@ use Rattle.systems.specs.declared.kinds.Colour.TheVariants.{Undecided, F, T}
 use Rattle.systems.specs.declared.kinds.Step.{Step}
 use Rattle.systems.specs.declared.kinds.Step.TheVariants.{Absent, Unsure, Sure}
 use Rattle.systems.specs.Numbers.{colour_number, step_number}
-use Rattle.law.specs.Calls.{Answer, refused, done, judged, looked, caused}
 
 numbered_colour : ℕ → Colour
 numbered_colour zero = Undecided
@@ -38,11 +37,3 @@ step_again Sure = refl
 
 pub same_step? : (k j : Step) → Dec (k ≡ j)
 same_step? k j = map_dec (λ e. sym (step_again k) ∙ ap numbered_step e ∙ step_again j) (ap step_number) (ℕ_discrete (step_number k) (step_number j))
-
--- which of its cases an answer is
-abbrev pub kind : Answer → ℕ
-kind (refused e) = 0
-kind done = 1
-kind (judged v t f u) = 2
-kind (looked v) = 3
-kind (caused slip told chain) = 4

@@ -1,7 +1,5 @@
 -- Over an exact model a cause's slip can be split, and with as many groups as states no verdict is undecided.
-use Rattle.std.proofs.Common.{◌≡◌, ℕ, ◌<◌, ◌≤◌, false, List, [], ◌∷◌, ◌++◌, length, sym, ap, ◌∙◌, subst, inl, inr, arith}
-use Rattle.std.specs.List.{AllByRecursion}
-use Rattle.std.proofs.ByRecursion.{All-get_or}
+use Rattle.std.proofs.Common.{◌≡◌, ℕ, ◌<◌, ◌≤◌, false, List, ◌∷◌, ◌++◌, length, sym, ap, ◌∙◌, subst, inl, inr}
 use Rattle.systems.specs.declared.kinds.Colour.TheVariants.{Undecided}
 use Rattle.systems.specs.Model.{Model, Exact}
 use Rattle.rules.specs.declared.syntax.Clause.{Clause}
@@ -15,6 +13,7 @@ use Rattle.colours.specs.Walks.{last}
 use Rattle.colours.specs.Colours.{HasVerdict}
 use Rattle.colours.specs.Groupings.{Member}
 use Rattle.colours.specs.Chains.{clause_at, Open, Ends, EndsInStep, Cause}
+use Rattle.colours.proofs.Lists.{all_at, last_of}
 use Rattle.colours.proofs.Chaining.{chains_part_members}
 use Rattle.colours.proofs.Exactness.{single_members_decide}
 use Rattle.groupings.specs.Members.{group_of, group_count}
@@ -23,19 +22,14 @@ use Rattle.law.specs.Ledgers.{Ledger, model, Sound}
 use Rattle.law.specs.Calls.{split, done, caused, Reply, Agrees, accepts, refuses}
 use Rattle.law.specs.Runs.{Event, Run, ledger_after}
 use Rattle.law.specs.Laws.{Neither, Progress, Bounded}
-use Rattle.law.proofs.Numbers.{kind}
 use Rattle.law.proofs.Counting.{Lies, Onto, onto_single}
 use Rattle.law.proofs.Soundness.{few_groups}
 use Rattle.law.proofs.Causing.{explained}
 use Rattle.law.proofs.Histories.{run_front, run_back, after_both, run_sound, same_groups, kept, counted}
 
-last_of : (P : Position → Type 0) (p : Position) (ps : List Position) → AllByRecursion P (p ∷ ps) → P (last p ps)
-last_of P p [] a = a.0
-last_of P p (q ∷ qs) a = last_of P q qs a.1
-
 module _ (M : Model) (l : Ledger) (w : Sound M l) where
   known_at : (i : ℕ) → i < length l.rule → MarkBelow M.marks (clause_at l.rule i)
-  known_at i b = All-get_or (MarkBelow M.marks) l.rule i (Constant false) b w.known
+  known_at i b = all_at (MarkBelow M.marks) l.rule i (Constant false) b w.known
 
   -- what a chain ends in exists
   end_exists : (p : Position) (slip : Reason) → Open (model M l) l.rule p → Ends (model M l) l.rule p slip → Exists M slip l.groups
@@ -82,8 +76,8 @@ split_accepted M l slip reply r x d (refuses e (inr (_, inr f)) a) = absurd f.1
 
 cause_neither : (e : Event) (slip : Reason) (told : ℕ) (chain : List Position) → e.reply.answer ≡ caused slip told chain → Neither e
 cause_neither e slip told chain c = (
-  λ x. let k = ap kind (sym x.2 ∙ c) in omega (arith, k),
-  λ x. let k = ap kind (sym x.2 ∙ c) in omega (arith, k),
+  λ x. cc (sym x.2 ∙ c),
+  λ x. cc (sym x.2 ∙ c),
 )
 
 module _ (M : Model) (l : Ledger) (es : List Event) (w : Sound M l) (run : Run M l es) where

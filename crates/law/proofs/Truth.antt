@@ -17,7 +17,7 @@ use Rattle.law.specs.Ledgers.{Ledger, model, verdict, ColouredBytes}
 use Rattle.law.specs.Calls.{Call, set_rule, regroup, judge, look, cause, split, Answer, refused, done, judged, looked, caused, Reply, Agrees, accepts, refuses}
 use Rattle.law.specs.Runs.{Event, Agreed}
 use Rattle.law.specs.Laws.{place_at, Truthful, Compatible}
-use Rattle.law.proofs.Numbers.{colour_once, kind}
+use Rattle.law.proofs.Numbers.{colour_once}
 use Rattle.law.proofs.Soundness.{fits}
 
 -- the colour in an answer
@@ -61,7 +61,7 @@ module _ (M : Model) (l : Ledger) where
     look_true : (m q c : ℕ) (reply : Reply) (r : Ledger) → Agrees M l (look m q s c) reply r → reply.answer ≡ looked v
         → HasColour (colouring M (formula l.rule c)) s v
     look_true m q c reply r (accepts h a) e = below (formula l.rule c) (ap colour_told (sym a.2 ∙ e))
-    look_true m q c reply r (refuses x f a) e = absurd (let k = ap kind (sym a.0 ∙ e) in omega (arith, k))
+    look_true m q c reply r (refuses x f a) e = cc (sym a.0 ∙ e)
 
   module _ (v : Colour) (d : ¬ (v ≡ Undecided)) (t n u : ℕ) where
     verdict_below : verdict M l ≡ v → HasVerdict M (whole l.rule) v
@@ -69,13 +69,13 @@ module _ (M : Model) (l : Ledger) where
         (subst (HasVerdict (model M l) (whole l.rule)) e (one_verdict (model M l) (whole l.rule)).0)
 
     verdict_true : (c : Call) (reply : Reply) (r : Ledger) → Agrees M l c reply r → reply.answer ≡ judged v t n u → HasVerdict M (whole l.rule) v
-    verdict_true c reply r (refuses x f a) e = absurd (let k = ap kind (sym a.0 ∙ e) in omega (arith, k))
+    verdict_true c reply r (refuses x f a) e = cc (sym a.0 ∙ e)
     verdict_true (judge m q) reply r (accepts h a) e = verdict_below (ap colour_told (sym a.2 ∙ e))
-    verdict_true (set_rule x) reply r (accepts h a) e = absurd (let k = ap kind (sym (ap (λ y. y.answer) a.0) ∙ e) in omega (arith, k))
-    verdict_true (regroup xs) reply r (accepts h a) e = absurd (let k = ap kind (sym (ap (λ y. y.answer) a.0) ∙ e) in omega (arith, k))
-    verdict_true (look m q s c) reply r (accepts h a) e = absurd (let k = ap kind (sym a.2 ∙ e) in omega (arith, k))
-    verdict_true (cause m q n c) reply r (accepts h a) e = absurd (let k = ap kind (sym a.2.3 ∙ e) in omega (arith, k))
-    verdict_true (split slip) reply r (accepts h a) e = absurd (let k = ap kind (sym (ap (λ y. y.answer) a.0) ∙ e) in omega (arith, k))
+    verdict_true (set_rule x) reply r (accepts h a) e = cc (sym (ap (λ y. y.answer) a.0) ∙ e)
+    verdict_true (regroup xs) reply r (accepts h a) e = cc (sym (ap (λ y. y.answer) a.0) ∙ e)
+    verdict_true (look m q s c) reply r (accepts h a) e = cc (sym a.2 ∙ e)
+    verdict_true (cause m q n c) reply r (accepts h a) e = cc (sym a.2.3 ∙ e)
+    verdict_true (split slip) reply r (accepts h a) e = cc (sym (ap (λ y. y.answer) a.0) ∙ e)
 
 pub truthful : (M : Model) (e : Event) → Agreed M e → Truthful M e
 truthful M e g = record {

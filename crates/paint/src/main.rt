@@ -3,8 +3,6 @@
 // number of turns, and `time` where the nanoseconds of one turn are to be printed too.
 #![tactic(auto)]
 
-ghost use Rattle.std.specs.Prelude.{◌<◌, length, IfSome};
-
 use anyhow::{Context, anyhow};
 use colours::Position;
 use engine::{Link, colour, count_positions, find_cause, verdict};
@@ -19,18 +17,11 @@ use systems::{Colour, Refusal, System, Table};
 // Places for every position of the largest table and the longest rule.
 const PLACES: usize = 8192;
 
+// What slots hold before a search writes them.
 const NOWHERE: Position = Position {
     group: 0,
     clause: 0,
 };
-
-fn letter(colour: Colour) -> &'static str {
-    match colour {
-        Colour::T => "T",
-        Colour::F => "F",
-        Colour::Undecided => "?",
-    }
-}
 
 // Colours the rule on the table itself, and prints the verdict and the counts.
 fn colour_turns(rt: &HostRuntime, table: &Table, rule: &Rule, turns: u32) -> anyhow::Result<()> {
@@ -42,13 +33,14 @@ fn colour_turns(rt: &HostRuntime, table: &Table, rule: &Rule, turns: u32) -> any
         let _ = colour(table, rule, board, &mut queue);
     }
     let tally = count_positions(table, rule, board);
-    let shown = letter(verdict(table, rule, board));
+    let shown = verdict(table, rule, board);
     println!(rt; "{shown} {} {} {}", tally.t, tally.f, tally.undecided)?;
     Ok(())
 }
 
 // Splits by one cause after another until the rule is decided or a split is refused; answers the verdict
-// and the number of groups then.
+// and the number of groups then. The workspaces come one by one, as a search for a cause borrows three of
+// them at once, and of a struct behind a reference the borrow checker lends one field at a time.
 fn refine(
     table: &Table,
     rule: &Rule,
@@ -86,38 +78,28 @@ fn refine_turns(rt: &HostRuntime, table: &Table, rule: &Rule, turns: u32) -> any
     let mut links = Ring::new(&mut link_slots);
     let mut places = [None; PLACES];
     let chain: &mut [Option<Position>] = &mut places;
-    let mut found = (Colour::Undecided, 0);
+    // What is told where no turn ends well.
+    let mut end = (Colour::Undecided, 0);
     for _ in 0..turns {
-        if let Ok(end) = refine(table, rule, board, &mut queue, &mut links, chain) {
-            found = end;
-        }
+        end = refine(table, rule, board, &mut queue, &mut links, chain).unwrap_or(end);
     }
-    println!(rt; "{} {}", letter(found.0), found.1)?;
+    let (shown, groups) = end;
+    println!(rt; "{shown} {groups}")?;
     Ok(())
 }
 
-// Where the rule line ends.
-fn line_end(input: &[u8]) -> Option<usize>
-    ensures { IfSome result (λ k. k < length input.now) }
-{
-    for (place, byte) in input.iter().enumerate() {
-        if *byte == b'\n' {
-            return Some(place);
-        }
-    }
-    None
-}
-
 fn turn(rt: &HostRuntime, task: &str, turns: u32, input: &[u8]) -> anyhow::Result<()> {
-    let Some(end) = line_end(input) else {
+    let mut parts = input.splitn(2, |byte| *byte == b'\n');
+    let (Some(line), Some(file)) = (parts.next(), parts.next()) else {
         return Err(anyhow!("there is no rule line"));
     };
-    let Ok(rule) = rules::read(&input[0..end]) else {
+    let Ok(rule) = rules::read(line) else {
         return Err(anyhow!("the rule is refused"));
     };
-    let Ok(table) = tables::read(&input[end + 1..]) else {
+    let Ok(table) = tables::read(file) else {
         return Err(anyhow!("the table is refused"));
     };
+    // Any other word refines: no word is refused.
     if task == "colour" {
         colour_turns(rt, &table, &rule, turns)
     } else {

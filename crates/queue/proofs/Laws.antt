@@ -3,13 +3,9 @@ use Rattle.std.proofs.Common.{◌≡◌, ◌+◌, ◌≤◌, [], ◌∷◌, ◌+
 use Rattle.std.proofs.lemmas.List.{length_push}
 use Rattle.queue.specs.declared.ring.Ring.{Ring}
 use Rattle.queue.specs.Held.{held, room}
-use Rattle.queue.proofs.Rounds.{round_length}
-
-pub held_length : {X : Type 0} (q : Ring X) → length (held q) ≡ q.len
-held_length q = round_length _ _ _ (omega arith) (omega arith)
 
 pub held_fits : {X : Type 0} (q : Ring X) → length (held q) ≤ room q
-held_fits q = let e = held_length q in omega arith
+held_fits q = omega arith
 
 -- one element more, and one less
 pub pushed_length : {X : Type 0} (q : Ring X) (x : X) (q' : Ring X) → held q' ≡ held q ++ x ∷ [] → length (held q') ≡ length (held q) + 1

@@ -1,20 +1,16 @@
 -- What a queue holds, and what its calls do to that.
-use Rattle.std.specs.Prelude.{◌≡◌, ℕ, ◌<◌, List, [], ◌∷◌, ◌++◌, length, take, drop, Some, None, Ok, Err, Option, Result}
+use Rattle.std.specs.Prelude.{◌≡◌, ℕ, ◌+◌, ◌<◌, List, [], ◌∷◌, ◌++◌, length, Some, None, Ok, Err, Option, Result}
 use Rattle.systems.specs.declared.refusals.Refusal.{Refusal}
 use Rattle.systems.specs.declared.refusals.Refusal.TheVariants.{QueueFull}
 use Rattle.queue.specs.declared.ring.Ring.{Ring}
 
--- the n elements of s from place h on, going round at the end
-unfoldable pub round : {X : Type 0} → List X → ℕ → ℕ → List X
-round s h n = take n (drop h s ++ take h s)
-
 -- what a queue holds, the oldest first
 abbrev pub held : {X : Type 0} → Ring X → List X
-held q = round q.slots.now q.head q.len
+held q = q.held
 
 -- how many elements a queue can hold
 abbrev pub room : {X : Type 0} → Ring X → ℕ
-room q = length q.slots.now
+room q = length q.held + q.free
 
 -- what push does: x comes last; or the queue is full and stays as it is
 abbrev pub Pushed : {X : Type 0} → Ring X → X → Ring X → Result (Unit {0}) Refusal → Type 0

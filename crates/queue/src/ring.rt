@@ -1,14 +1,27 @@
 // A first-in first-out queue over a lent slice.
-ghost use Rattle.std.specs.Prelude.{◌-◌, ◌≤◌, length};
-
 mod methods;
 
-// `len` elements stand from place `head` on, going round at the end of the slice.
+use std::marker::Model;
+
+// `len` elements stand from place `head` on, going round at the end of the slice. The slice is lent,
+// since a call that takes a queue must not fail for want of memory.
 #[derive(Drop)]
 pub struct Ring<'a, T> {
     slots: &'a mut [T],
     head: usize,
     len: usize,
-    ghost fits: { len ≤ length slots.now },
-    ghost starts: { head ≤ length slots.now - 1 },
+}
+
+// Clauses see what waits, the oldest first, and how many places are free.
+impl<'a, T> Model for Ring<'a, T> {
+    ghost use Rattle.std.specs.Prelude.{◌-◌, ◌≤◌, length};
+    ghost use Rattle.queue.specs.Waiting.{Waiting, waiting_code, round};
+
+    ghost Value = { Waiting T };
+
+    ghost coded = { waiting_code T.code };
+
+    ghost view = { λ r. record { held = round r.slots.now r.head r.len; free = length r.slots.now - r.len } };
+
+    ghost invariant = { λ r. (r.len ≤ length r.slots.now) × (r.head ≤ length r.slots.now - 1) };
 }

@@ -1,20 +1,20 @@
 -- The reader that takes one byte at a time reads each rule of the grammar.
-use Rattle.std.proofs.Common.{◌≡◌, ℕ, suc, ◌+◌, ◌<◌, ◌≤◌, Bool, true, false, ◌&&◌, leb, ◌⊎◌, List, [], ◌∷◌, ◌++◌, length, Some, sym, refl, ap, ◌∙◌, inl, inr, append_assoc, append-nil, arith}
-use Rattle.std.proofs.lemmas.Bool.{cases_lt, cases_eq, lt-ltb, le-ltb}
+use Rattle.std.proofs.Common.{◌≡◌, ℕ, ◌+◌, ◌-◌, ◌<◌, ◌≤◌, Bool, true, false, ◌⊎◌, List, [], ◌∷◌, ◌++◌, Some, None, sym, refl, ap, ◌∙◌, inl, inr, append_assoc, append-nil, arith}
+use Rattle.std.proofs.lemmas.Bool.{cases_lt, cases_eq, ne_eqb, le-leb, lt-ltb, le-ltb}
 use Rattle.rules.specs.declared.syntax.Quantifier.{Quantifier}
 use Rattle.rules.specs.declared.pieces.Prefix.{Prefix}
 use Rattle.rules.specs.declared.syntax.Operator.{Operator}
 use Rattle.rules.specs.declared.pieces.Bracket.{Bracket}
 use Rattle.rules.specs.Trees.{Tree}
 use Rattle.rules.specs.Grammar.{Spells, a_constant, a_mark, a_prefix, a_pair, space_before, space_after, digit, numeral, in_front, opening, between}
-use Rattle.rules.specs.reader.Machine.{Frame, under, left, right, State, want, have, digit_wanted, after_one, begin, go_on, joined, after, step, accepted, ended, finish, continue, outcome}
-use Rattle.rules.proofs.Steps.{spacious_want, under_read, spacious_have}
-use Rattle.rules.proofs.Scans.{at_digit, at_after_one}
+use Rattle.rules.specs.reader.Machine.{Frame, under, left, right, want, have, digit_wanted, after_one, after_digit, after, second, step, accepted, ended, finish, outcome}
+use Rattle.rules.specs.reader.Bytes.{digit_of}
+use Rattle.rules.proofs.Steps.{goes, spacious_want, under_read, spacious_have}
 
 -- no digit from 0 to 5 comes first
 abbrev Quiet : List ℕ → Type 0
 Quiet [] = Unit {0}
-Quiet (b ∷ bs) = (leb 48 b && leb b 53) ≡ false
+Quiet (b ∷ bs) = digit_of 5 b ≡ None
 
 -- the bracket of an operator
 abbrev pub bracket : Operator → Bracket
@@ -26,7 +26,7 @@ bracket Operator.EU = Bracket.Quantified Quantifier.E
 bracket Operator.EV = Bracket.Quantified Quantifier.E
 
 prefixed : (o : Prefix) (k : List Frame) (x : List ℕ) → outcome (want k) (in_front o ++ x) ≡ outcome (want (under o ∷ k)) x
-unfolding outcome step begin go_on
+unfolding outcome step
 prefixed Prefix.Not k x = refl
 prefixed (Prefix.Next Quantifier.A) k x = refl
 prefixed (Prefix.Next Quantifier.E) k x = refl
@@ -36,7 +36,7 @@ prefixed (Prefix.Finally Quantifier.A) k x = refl
 prefixed (Prefix.Finally Quantifier.E) k x = refl
 
 opened : (o : Operator) (k : List Frame) (x : List ℕ) → outcome (want k) (opening o ++ x) ≡ outcome (want (left (bracket o) ∷ k)) x
-unfolding outcome step begin go_on
+unfolding outcome step
 opened Operator.And k x = refl
 opened Operator.Or k x = refl
 opened Operator.AU k x = refl
@@ -45,7 +45,7 @@ opened Operator.EU k x = refl
 opened Operator.EV k x = refl
 
 signed : (o : Operator) (s : Tree) (k : List Frame) (x : List ℕ) → outcome (have s (left (bracket o) ∷ k)) (between o ++ x) ≡ outcome (want (right o s ∷ k)) x
-unfolding outcome step after joined
+unfolding outcome step after
 signed Operator.And s k x = refl
 signed Operator.Or s k x = refl
 signed Operator.AU s k x = refl
@@ -66,33 +66,41 @@ unfolding outcome step after
 closed o r s k x = refl
 
 quiet_after_one : (k : List Frame) (x : List ℕ) → Quiet x → outcome (after_one k) x ≡ outcome (have (Tree.mark 1) k) x
-unfolding outcome step finish
+unfolding outcome step second finish
 quiet_after_one k [] h = refl
 quiet_after_one k (b ∷ x) h = rw h refl
 
-one_byte : (σ τ : State) (b : ℕ) (x : List ℕ) → step σ b ≡ Some τ → outcome σ (b ∷ x) ≡ outcome τ x
-unfolding outcome
-one_byte σ τ b x e = ap (λ o. continue o (suc (length x)) (λ τ. outcome τ x)) e
+digit_is : (most m : ℕ) → m ≤ most → digit_of most (48 + m) ≡ Some m
+digit_is most m l = let e : 48 + m - 48 ≡ m = omega arith in rw (le-leb 48 (48 + m) (omega arith), le-leb (48 + m) (48 + most) (omega arith), e) refl
 
 named_read : (m : ℕ) (k : List Frame) (x : List ℕ) → m < 16 → Quiet x → outcome (digit_wanted k) (numeral m ++ x) ≡ outcome (have (Tree.mark m) k) x
-unfolding step
+unfolding step second
 named_read m k x low quiet = by (cases_lt m 10)
   where
+    first : (n : ℕ) → n ≤ 9 → step (digit_wanted k) (48 + n) ≡ Some (after_digit n k)
+    first n l = rw (digit_is 9 n l) refl
+
     few : m < 10 → (m ≡ 1) ⊎ (m ≡ 1 → ⊥) → outcome (digit_wanted k) ((48 + m) ∷ x) ≡ outcome (have (Tree.mark m) k) x
-    few l (inl e) = rw e (one_byte (digit_wanted k) (after_one k) 49 x refl ∙ quiet_after_one k x quiet)
-    few l (inr n) = one_byte (digit_wanted k) _ (48 + m) x (at_digit (48 + m) k (omega arith) (omega arith) (omega arith)) ∙ ap (λ j. outcome (have (Tree.mark j) k) x) (omega arith)
+    few l (inl e) = rw e (goes (digit_wanted k) (after_one k) 49 x (first 1 (omega arith)) ∙ quiet_after_one k x quiet)
+    few l (inr n) = goes (digit_wanted k) (after_digit m k) (48 + m) x (first m (omega arith)) ∙ ap (λ σ. outcome σ x) (rw (ne_eqb m 1 n) refl)
+
+    teen : 10 ≤ m → step (after_one k) (38 + m) ≡ Some (have (Tree.mark m) k)
+    teen g =
+        let e : 48 + (m - 10) ≡ 38 + m = omega arith in
+        let f : 10 + (m - 10) ≡ m = omega arith in
+        rw (← e, digit_is 5 (m - 10) (omega arith), f) refl
 
     by : (m < 10) ⊎ (10 ≤ m) → outcome (digit_wanted k) (numeral m ++ x) ≡ outcome (have (Tree.mark m) k) x
     by (inl l) = rw (lt-ltb m 10 l) (few l (cases_eq m 1))
-    by (inr g) = rw (le-ltb m 10 g) (one_byte (digit_wanted k) (after_one k) 49 _ refl ∙ one_byte (after_one k) _ (38 + m) x (at_after_one (38 + m) k (omega arith) (omega arith)) ∙ ap (λ j. outcome (have (Tree.mark j) k) x) (omega arith))
+    by (inr g) = rw (le-ltb m 10 g) (goes (digit_wanted k) (after_one k) 49 _ (first 1 (omega arith)) ∙ goes (after_one k) _ (38 + m) x (teen g))
 
 constant_read : (b : Bool) (k : List Frame) (x : List ℕ) → outcome (want k) (digit b ++ x) ≡ outcome (have (Tree.constant b) k) x
-unfolding outcome step begin
+unfolding outcome step
 constant_read true k x = refl
 constant_read false k x = refl
 
 mark_begun : (k : List Frame) (x : List ℕ) → outcome (want k) (112 ∷ x) ≡ outcome (digit_wanted k) x
-unfolding outcome step begin
+unfolding outcome step
 mark_begun k x = refl
 
 -- a rule that the grammar spells is read, whatever is on the stack; a digit after it could belong to its last mark

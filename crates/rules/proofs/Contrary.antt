@@ -5,20 +5,13 @@ use Rattle.rules.specs.declared.syntax.Operator.{Operator}
 use Rattle.rules.specs.Formulas.{Formula, other_quantifier, other_operator, contrary}
 
 other_other_quantifier : (k : Quantifier) → other_quantifier (other_quantifier k) ≡ k
-other_other_quantifier Quantifier.A = refl
-other_other_quantifier Quantifier.E = refl
+other_other_quantifier = elim [ Quantifier.A ↦ refl | Quantifier.E ↦ refl ]
 
 other_other_operator : (o : Operator) → other_operator (other_operator o) ≡ o
-other_other_operator Operator.And = refl
-other_other_operator Operator.Or = refl
-other_other_operator Operator.AU = refl
-other_other_operator Operator.AV = refl
-other_other_operator Operator.EU = refl
-other_other_operator Operator.EV = refl
+other_other_operator = elim [ Operator.And ↦ refl | Operator.Or ↦ refl | Operator.AU ↦ refl | Operator.AV ↦ refl | Operator.EU ↦ refl | Operator.EV ↦ refl ]
 
 not_not : (b : Bool) → not (not b) ≡ b
-not_not true = refl
-not_not false = refl
+not_not = elim [ true ↦ refl | false ↦ refl ]
 
 pub contrary_contrary : (f : Formula) → contrary (contrary f) ≡ f
 unfolding contrary

@@ -1,44 +1,37 @@
 -- The list of clauses while it is filled.
-use Rattle.std.proofs.Common.{◌≡◌, ℕ, ◌+◌, ◌<◌, ◌≤◌, false, ◌≢◌, ◌⊎◌, List, [], ◌∷◌, ◌++◌, length, set, sym, ap, ◌∙◌, inl, inr, append_assoc, arith, length-append, length-set}
-use Rattle.std.proofs.lemmas.List.{get_or_append_left, get_or_push, get_or-set_same, get_or-set_other}
-use Rattle.std.proofs.lemmas.Bool.{cases_lt}
+use Rattle.std.proofs.Common.{◌≡◌, ℕ, ◌+◌, ◌<◌, ◌≤◌, List, [], ◌∷◌, ◌++◌, length, take, set, min, zero, suc, sym, refl, ap, ◌∙◌, add-one, append_assoc, append-nil, arith, length-append, length-take, take-suc-set}
+use lib.Seq.{take-append-le}
+use Rattle.std.proofs.lemmas.List.{take_all}
 use Rattle.rules.specs.declared.syntax.Clause.{Clause}
 use Rattle.rules.specs.declared.clause_list.ClauseList.{ClauseList}
-use Rattle.rules.specs.reader.Filling.{Filled, Adds}
-use Rattle.rules.proofs.Listing.{at}
+use Rattle.rules.specs.reader.Filling.{kept, Adds}
 
--- the places after one clause more
-abbrev Put : ClauseList → List Clause → Clause → Type 0
-Put t after c = ((t.count < 64) × (after ≡ set t.clauses t.count c)) ⊎ ((64 ≤ t.count) × (after ≡ t.clauses))
+length_kept : (t : ClauseList) → length (kept t) ≡ min t.count 64
+length_kept t = length-take t.count t.clauses ∙ ap (min t.count) t.whole
 
-kept : (t : ClauseList) (after : List Clause) (c : Clause) (i : ℕ) → Put t after c → i < 64 → i ≢ t.count → at after i ≡ at t.clauses i
-kept t after c i (inl h) low ne = ap (λ xs. at xs i) h.1 ∙ get_or-set_other t.clauses t.count i c (Clause.Constant false) ne
-kept t after c i (inr h) low ne = ap (λ xs. at xs i) h.1
+-- one clause more, where there is room, and where there is none
+pub put_kept : (t : ClauseList) (c : Clause) → t.count < 64 → take (t.count + 1) (set t.clauses t.count c) ≡ take 64 (kept t ++ c ∷ [])
+put_kept t c l =
+    ap (λ n. take n (set t.clauses t.count c)) (add-one t.count)
+    ∙ take-suc-set t.clauses t.count c (omega (arith, t.whole))
+    ∙ sym (take_all 64 (kept t ++ c ∷ []) (omega (arith, length-append (kept t) (c ∷ []), length_kept t)))
 
-new : (t : ClauseList) (after : List Clause) (c : Clause) → Put t after c → length t.clauses ≡ 64 → t.count < 64 → at after t.count ≡ c
-new t after c (inl h) e low = ap (λ xs. at xs t.count) h.1 ∙ get_or-set_same t.clauses t.count c (Clause.Constant false) (omega arith)
-new t after c (inr h) e low = absurd (omega arith)
+pub put_full : (t : ClauseList) (c : Clause) → 64 ≤ t.count → take (t.count + 1) t.clauses ≡ take 64 (kept t ++ c ∷ [])
+put_full t c g =
+    take_all (t.count + 1) t.clauses (omega (arith, t.whole))
+    ∙ sym (take_all t.count t.clauses (omega (arith, t.whole)))
+    ∙ sym (take_all 64 (kept t) (omega (arith, length_kept t)))
+    ∙ sym (take-append-le 64 (kept t) (c ∷ []) (omega (arith, length_kept t)))
 
-long : (t : ClauseList) (after : List Clause) (c : Clause) → Put t after c → length after ≡ length t.clauses
-long t after c (inl h) = ap length h.1 ∙ length-set t.clauses t.count c
-long t after c (inr h) = ap length h.1
+-- nothing is added
+pub adds_none : (t : ClauseList) → Adds t t []
+adds_none t = (omega arith, sym (take_all 64 (kept t ++ []) (rw append-nil (omega (arith, length_kept t))) ∙ append-nil (kept t)))
 
-put_fills : (t u : ClauseList) (c : Clause) → u.count ≡ t.count + 1 → Put t u.clauses c → (cs : List Clause) → Filled t cs → Filled u (cs ++ c ∷ [])
-put_fills t u c n p cs f = (
-  long t u.clauses c p ∙ f.0,
-  n ∙ ap (λ k. k + 1) f.1 ∙ sym (length-append cs (c ∷ [])),
-  λ i low lower. filled_at i low (cases_lt i (length cs)) (rw (length-append cs (c ∷ [])) at lower),
-)
-  where
-    filled_at : (i : ℕ) → i < 64 → ((i < length cs) ⊎ (length cs ≤ i)) → i < length cs + 1 → at u.clauses i ≡ at (cs ++ c ∷ []) i
-    filled_at i low (inl l) m = kept t u.clauses c i p low (omega (arith, f.1)) ∙ f.2 i low l ∙ sym (get_or_append_left cs (c ∷ []) (Clause.Constant false) i l)
-    filled_at i low (inr g) m =
-        let here : i ≡ t.count = omega (arith, f.1) in
-        ap (λ k. at u.clauses k) here ∙ new t u.clauses c p f.0 (omega arith) ∙ sym (get_or_push cs c (Clause.Constant false) i (omega arith))
-
-pub put_adds : (t u : ClauseList) (c : Clause) → u.count ≡ t.count + 1 → Put t u.clauses c → Adds t u (c ∷ [])
-put_adds t u c n p = (n, put_fills t u c n p)
+cut_append : {X : Type 0} (n : ℕ) (xs ys : List X) → take n (take n xs ++ ys) ≡ take n (xs ++ ys)
+cut_append zero xs ys = refl
+cut_append (suc n) [] ys = refl
+cut_append (suc n) (x ∷ xs) ys = ap (λ zs. x ∷ zs) (cut_append n xs ys)
 
 -- what is added in two steps
 pub adds_join : (t u v : ClauseList) (xs ys : List Clause) → Adds t u xs → Adds u v ys → Adds t v (xs ++ ys)
-adds_join t u v xs ys f g = (rw (length-append xs ys) (omega (arith, f.0, g.0)), λ cs h. rw (← append_assoc cs xs ys) (g.1 (cs ++ xs) (f.1 cs h)))
+adds_join t u v xs ys f g = (rw (length-append xs ys) (omega (arith, f.0, g.0)), g.1 ∙ ap (λ zs. take 64 (zs ++ ys)) f.1 ∙ cut_append 64 (kept t ++ xs) ys ∙ ap (take 64) (append_assoc (kept t) xs ys))

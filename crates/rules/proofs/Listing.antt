@@ -1,12 +1,12 @@
 -- The list of a formula's clauses.
-use Rattle.std.proofs.Common.{◌≡◌, ℕ, zero, suc, ◌+◌, ◌-◌, ◌<◌, ◌≤◌, true, false, ltb, ◌⊎◌, List, [], ◌∷◌, ◌++◌, length, get_or, sym, refl, ap, ◌∙◌, subst, ap₂, inl, inr, zero-add, arith, length-append}
+use Rattle.std.proofs.Common.{◌≡◌, ℕ, zero, suc, ◌+◌, ◌-◌, ◌<◌, ◌≤◌, false, ◌⊎◌, List, [], ◌∷◌, ◌++◌, length, get_or, sym, refl, ap, ◌∙◌, subst, ap₂, inl, inr, zero-add, arith, length-append}
 use Rattle.std.specs.List.{AllByRecursion}
 use Rattle.std.proofs.ByRecursion.{All-append, All-push, All-get_or}
 use Rattle.std.proofs.lemmas.List.{get_or_append_left, get_or-append_right, get_or_push}
-use Rattle.std.proofs.lemmas.Bool.{cases_lt, lt-ltb, ltb-true, and_from, and_parts}
+use Rattle.std.proofs.lemmas.Bool.{cases_lt}
 use Rattle.rules.specs.declared.syntax.Clause.{Clause}
 use Rattle.rules.specs.Formulas.{Formula, MarksBelow}
-use Rattle.rules.specs.Clauses.{tree, PartsBelow, WellFounded, unrolled, formula, whole, size, numbered, clauses, MarkBelow, fits_at}
+use Rattle.rules.specs.Clauses.{tree, PartsBelow, WellFounded, unrolled, formula, whole, size, numbered, clauses, MarkBelow}
 use Rattle.rules.specs.Trees.{normal_form}
 use Rattle.rules.specs.Theorems.{ListedWhole, ReadFormula, MarksListed, MarksOfClauses}
 
@@ -115,32 +115,8 @@ numbered_marks m n (Formula.pair o r q) a = (
 pub marks_listed : MarksListed
 marks_listed m f = (marks_numbered m 0 f, numbered_marks m 0 f)
 
--- a clause fits its place exactly where its parts are earlier and its mark is below 16
-fits_from : (n : ℕ) (c : Clause) → PartsBelow n c → MarkBelow 16 c → fits_at n c ≡ true
-fits_from n (Clause.Constant b) p m = refl
-fits_from n (Clause.Mark k negated) p m = lt-ltb k 16 m
-fits_from n (Clause.Next k r) p m = lt-ltb r n p
-fits_from n (Clause.Pair o r q) p m = and_from (ltb r n) (ltb q n) (lt-ltb r n p.0) (lt-ltb q n p.1)
-
-pub fits_parts : (n : ℕ) (c : Clause) → fits_at n c ≡ true → PartsBelow n c
-fits_parts n (Clause.Constant b) e = tt
-fits_parts n (Clause.Mark k negated) e = tt
-fits_parts n (Clause.Next k r) e = ltb-true r n e
-fits_parts n (Clause.Pair o r q) e = let h = and_parts (ltb r n) (ltb q n) e in (ltb-true r n h.0, ltb-true q n h.1)
-
-pub fits_mark : (n : ℕ) (c : Clause) → fits_at n c ≡ true → MarkBelow 16 c
-fits_mark n (Clause.Constant b) e = tt
-fits_mark n (Clause.Mark k negated) e = ltb-true k 16 e
-fits_mark n (Clause.Next k r) e = tt
-fits_mark n (Clause.Pair o r q) e = tt
-
 founded : (f : Formula) → WellFounded (clauses f)
 founded f i l = subst (λ n. PartsBelow n (at (clauses f) i)) (zero-add i) (parts_numbered f 0 i (omega (arith, length_numbered 0 f)))
-
-pub fits_clauses : (f : Formula) (i : ℕ) → MarksBelow 16 f → i < size f → fits_at i (at (clauses f) i) ≡ true
-fits_clauses f i m l =
-    let h : i < length (clauses f) = omega (arith, length_numbered 0 f) in
-    fits_from i (at (clauses f) i) (founded f i h) (All-get_or (MarkBelow 16) (clauses f) i (Clause.Constant false) h (marks_numbered 16 0 f m))
 
 -- the clauses of f stand in the list from n on
 abbrev Stands : List Clause → ℕ → Formula → Type 0

@@ -1,27 +1,31 @@
 -- What the recursive reader does, from what its parts do.
-use Rattle.std.proofs.Common.{◌≡◌, ℕ, ◌+◌, ◌-◌, ◌*◌, ◌<◌, ◌≤◌, max, Bool, true, false, List, [], ◌∷◌, ◌++◌, length, drop, Ok, sym, refl, ap, ◌∙◌, subst, ap₂, append-nil, add-zero, arith}
+use Rattle.std.proofs.Common.{◌≡◌, ℕ, ◌+◌, ◌-◌, ◌*◌, ◌<◌, ◌≤◌, max, Bool, true, false, cond, not, List, [], ◌∷◌, ◌++◌, length, drop, eqb, Ok, Result, sym, refl, ap, ◌∙◌, subst, ap₂, append-nil, add-zero, length-drop, arith}
+use Rattle.std.specs.Prelude.{option_to_list}
+use Rattle.std.specs.Result.{IsErrAnd}
+use Rattle.std.proofs.lemmas.Bool.{eqb-true}
+use Rattle.std.proofs.lemmas.Result.{err_from_is_err_and}
 use Rattle.rules.specs.declared.pieces.Prefix.{Prefix}
 use Rattle.rules.specs.declared.syntax.Operator.{Operator}
 use Rattle.rules.specs.declared.pieces.Bracket.{Bracket}
 use Rattle.rules.specs.declared.pieces.Head.{Head}
+use Rattle.rules.specs.declared.pieces.Stuck.{Stuck}
 use Rattle.rules.specs.declared.syntax.Clause.{Clause}
-use Rattle.rules.specs.declared.pieces.Part.{Part}
-use Rattle.rules.specs.declared.pieces.Joint.{Joint}
 use Rattle.rules.specs.declared.clause_list.ClauseList.{ClauseList}
-use Rattle.rules.specs.Formulas.{contrary}
+use Rattle.rules.specs.declared.reader.Reader.{Reader}
+use Rattle.rules.specs.Formulas.{other_operator, contrary}
 use Rattle.rules.specs.Clauses.{size, numbered}
 use Rattle.rules.specs.Trees.{Tree, normal_form}
-use Rattle.rules.specs.reader.Machine.{under, left, right, want, outcome}
-use Rattle.rules.specs.reader.Filling.{Adds, polar, turn_operator, turn_constant, flip, leading, trailing}
-use Rattle.rules.specs.reader.Scans.{Leads, headed, Joins, Closes}
-use Rattle.rules.specs.reader.Parts.{ReadsPart}
-use Rattle.rules.proofs.Steps.{under_read}
+use Rattle.rules.specs.reader.Machine.{under, left, right, want, have, headed, after, step, accepted, stuck, ended, finish, outcome}
+use Rattle.rules.specs.reader.Filling.{Adds, polar, flip, leading, trailing}
+use Rattle.rules.specs.reader.Scans.{spaces, Stops, Reads, between_rules, joined_by, in_bracket, closed}
+use Rattle.rules.specs.reader.Parts.{PartRead, ReadsPart}
+use Rattle.rules.proofs.Steps.{stays, under_read, spacious_have, skipped, no_space}
 use Rattle.rules.proofs.Filling.{adds_join}
 use Rattle.rules.proofs.Contrary.{contrary_contrary}
 use Rattle.rules.proofs.Listing.{size_pos, length_numbered}
 
 -- the clauses of a rule after a prefix, and of two rules joined
-numbered_prefix : (n : ℕ) (o : Prefix) (negated : Bool) (r : Tree) → numbered n (polar negated (Tree.unary o r)) ≡ leading o negated ++ (numbered (n + length (leading o negated)) (polar (flip o negated) r) ++ trailing o negated n (n + length (leading o negated) + size (polar (flip o negated) r) - 1))
+numbered_prefix : (n : ℕ) (o : Prefix) (negated : Bool) (r : Tree) → numbered n (polar negated (Tree.unary o r)) ≡ option_to_list (leading o negated) ++ (numbered (n + length (option_to_list (leading o negated))) (polar (flip o negated) r) ++ option_to_list (trailing o negated n (n + length (option_to_list (leading o negated)) + size (polar (flip o negated) r) - 1)))
 unfolding contrary
 numbered_prefix n Prefix.Not false r = rw (add-zero, append-nil) refl
 numbered_prefix n Prefix.Not true r = rw (contrary_contrary, add-zero, append-nil) refl
@@ -32,7 +36,7 @@ numbered_prefix n (Prefix.Globally q) true r = let e : n + 1 - 1 ≡ n = omega a
 numbered_prefix n (Prefix.Finally q) false r = let e : n + 1 - 1 ≡ n = omega arith in rw e refl
 numbered_prefix n (Prefix.Finally q) true r = let e : n + 1 - 1 ≡ n = omega arith in rw e refl
 
-numbered_pair : (n : ℕ) (o : Operator) (negated : Bool) (r q : Tree) → numbered n (polar negated (Tree.binary o r q)) ≡ numbered n (polar negated r) ++ (numbered (n + size (polar negated r)) (polar negated q) ++ Clause.Pair (turn_operator negated o) (n + size (polar negated r) - 1) (n + size (polar negated r) + size (polar negated q) - 1) ∷ [])
+numbered_pair : (n : ℕ) (o : Operator) (negated : Bool) (r q : Tree) → numbered n (polar negated (Tree.binary o r q)) ≡ numbered n (polar negated r) ++ (numbered (n + size (polar negated r)) (polar negated q) ++ Clause.Pair (cond negated (other_operator o) o) (n + size (polar negated r) - 1) (n + size (polar negated r) + size (polar negated q) - 1) ∷ [])
 unfolding contrary
 numbered_pair n o false r q = refl
 numbered_pair n o true r q = refl
@@ -53,105 +57,122 @@ size_prefix (Prefix.Globally q) true r = omega arith
 size_prefix (Prefix.Finally q) false r = omega arith
 size_prefix (Prefix.Finally q) true r = omega arith
 
-pub leading_short : (o : Prefix) (negated : Bool) → length (leading o negated) ≤ 1
+pub leading_short : (o : Prefix) (negated : Bool) → length (option_to_list (leading o negated)) ≤ 1
 leading_short Prefix.Not negated = omega arith
 leading_short (Prefix.Next q) negated = omega arith
 leading_short (Prefix.Globally q) negated = omega arith
 leading_short (Prefix.Finally q) negated = omega arith
 
--- how many clauses were added, and where the reader stands
-pub counted : (text : List ℕ) (at : ℕ) (negated : Bool) (t u : ClauseList) (p : Part) → ReadsPart text at negated t u (Ok p) → (t.count < u.count) × (u.count + 2 * at ≤ t.count + 2 * p.end) × (at ≤ p.end) × (p.end ≤ length text)
-counted text at negated t u p h =
-    let e = length_numbered t.count (polar negated h.0) in
-    let l = size_pos (polar negated h.0) in
-    let g = h.3.0 in
-    let b = h.4 in
-    (omega arith, omega arith, h.1.0, h.1.1)
+-- how many clauses were added, and how far the reader went
+pub counted : (negated : Bool) (r q : Reader) (depth : ℕ) → PartRead negated r q depth → (r.list.count < q.list.count) × (q.list.count + 2 * length q.rest ≤ r.list.count + 2 * length r.rest) × (length q.rest < length r.rest)
+counted negated r q depth p =
+    let e = length_numbered r.list.count (polar negated p.spelled) in
+    let l = size_pos (polar negated p.spelled) in
+    let g = p.adds.0 in
+    let b = p.few in
+    (omega arith, omega arith, omega arith)
 
--- the four forms of a rule
-pub part_constant : (text : List ℕ) (at : ℕ) (negated : Bool) (t u : ClauseList) (end : ℕ) (x : Head) (b v : Bool) → at < end → Leads text at end want (headed x) → x ≡ Head.Constant v → b ≡ turn_constant negated v → Adds t u (Clause.Constant b ∷ []) → ReadsPart text at negated t u (Ok (record { end = end; nesting = 1 }))
+-- where no rule goes on
+pub part_stops : (negated : Bool) (r q : Reader) (e : Stuck) (a : Result ℕ Stuck) → IsErrAnd a (λ d. d ≡ e) → Stops want r.rest e.left → ReadsPart negated r q a
+part_stops negated r q e a h s = let p = err_from_is_err_and a h in rw (p.1, p.2) s
+
+-- the end of a text, and bytes after the rule
+ended_read : (s : Tree) (bs : List ℕ) → length bs ≡ 0 → outcome (have s []) bs ≡ accepted s
+unfolding outcome finish ended
+ended_read s [] e = refl
+ended_read s (b ∷ bs) e = absurd (omega (arith, e))
+
+more_read : (s : Tree) (bs : List ℕ) → false ≡ eqb (length bs) 0 → ((b : ℕ) (cs : List ℕ) → bs ≡ b ∷ cs → eqb b 32 ≡ false) → outcome (have s []) bs ≡ stuck (length bs)
+unfolding step after
+more_read s [] e n = let z : ◌≡◌ {A = ℕ} 0 1 = cc in absurd (omega arith)
+more_read s (b ∷ bs) e n = stays (have s []) b bs (rw (n b bs refl) refl)
+
+-- the forms of a rule
+pub part_constant : (negated v : Bool) (r q : Reader) → Reads want headed r.rest q.rest (Ok (Head.Constant v)) → Adds r.list q.list (Clause.Constant (cond negated (not v) v) ∷ []) → PartRead negated r q 1
 unfolding contrary
-part_constant text at negated t u end x b v l h e f a = (
-  Tree.constant v,
-  (h.0, h.1, λ k. h.2 k ∙ ap (λ y. outcome (headed y k) (drop end text)) e),
-  refl,
-  subst (Adds t u) (same negated v b f) a,
-  size_one negated v,
-  omega arith,
-)
-  where
-    same : (negated v b : Bool) → b ≡ turn_constant negated v → (Clause.Constant b ∷ []) ≡ numbered t.count (polar negated (Tree.constant v))
-    same true v b f = ap (λ y. Clause.Constant y ∷ []) f
-    same false v b f = ap (λ y. Clause.Constant y ∷ []) f
+part_constant true v r q h a = record { spelled = Tree.constant v; leads = h.1; nested = refl; adds = a; few = omega (arith, h.0); shallow = omega (arith, h.0) }
+part_constant false v r q h a = record { spelled = Tree.constant v; leads = h.1; nested = refl; adds = a; few = omega (arith, h.0); shallow = omega (arith, h.0) }
 
-    size_one : (negated v : Bool) → size (polar negated (Tree.constant v)) + 2 * at ≤ 2 * end
-    size_one true v = omega arith
-    size_one false v = omega arith
-
-pub part_mark : (text : List ℕ) (at : ℕ) (negated : Bool) (t u : ClauseList) (end : ℕ) (x : Head) (m : ℕ) → at < end → Leads text at end want (headed x) → x ≡ Head.Mark m → Adds t u (Clause.Mark m negated ∷ []) → ReadsPart text at negated t u (Ok (record { end = end; nesting = 1 }))
+pub part_mark : (negated : Bool) (m : ℕ) (r q : Reader) → Reads want headed r.rest q.rest (Ok (Head.Mark m)) → Adds r.list q.list (Clause.Mark m negated ∷ []) → PartRead negated r q 1
 unfolding contrary
-part_mark text at negated t u end x m l h e a = (
-  Tree.mark m,
-  (h.0, h.1, λ k. h.2 k ∙ ap (λ y. outcome (headed y k) (drop end text)) e),
-  refl,
-  subst (Adds t u) (same negated) a,
-  size_one negated,
-  omega arith,
-)
-  where
-    same : (negated : Bool) → (Clause.Mark m negated ∷ []) ≡ numbered t.count (polar negated (Tree.mark m))
-    same true = refl
-    same false = refl
+part_mark true m r q h a = record { spelled = Tree.mark m; leads = h.1; nested = refl; adds = a; few = omega (arith, h.0); shallow = omega (arith, h.0) }
+part_mark false m r q h a = record { spelled = Tree.mark m; leads = h.1; nested = refl; adds = a; few = omega (arith, h.0); shallow = omega (arith, h.0) }
 
-    size_one : (negated : Bool) → size (polar negated (Tree.mark m)) + 2 * at ≤ 2 * end
-    size_one true = omega arith
-    size_one false = omega arith
+module _ (negated : Bool) (r : Reader) where
+  module _ (o : Prefix) (r₁ : Reader) (h : Reads want headed r.rest r₁.rest (Ok (Head.Prefix o))) where
+    pub prefix_stops : (n : ℕ) → Stops want r₁.rest n → Stops want r.rest n
+    prefix_stops n s = (omega (arith, h.0, s.0), λ k. h.1 k ∙ s.1 (under o ∷ k))
 
-pub part_prefix : (text : List ℕ) (at mid : ℕ) (negated inner : Bool) (t t₁ t₂ u : ClauseList) (x : Head) (o : Prefix) (p : Part) → at < mid → Leads text at mid want (headed x) → x ≡ Head.Prefix o → inner ≡ flip o negated → Adds t t₁ (leading o negated) → ReadsPart text mid inner t₁ t₂ (Ok p) → Adds t₂ u (trailing o negated t.count (t₂.count - 1)) → ReadsPart text at negated t u (Ok (record { end = p.end; nesting = p.nesting + 1 }))
-part_prefix text at mid negated inner t t₁ t₂ u x o p l h e i a r b =
-    let s = r.0 in
-    let k₁ = a.0 in
-    let k₂ = r.3.0 in
-    let z = length_numbered t₁.count (polar inner s) in
-    let n₁ : t₁.count ≡ t.count + length (leading o negated) = a.0 in
-    let n₂ : t₂.count - 1 ≡ t.count + length (leading o negated) + size (polar inner s) - 1 = omega arith in (
-      Tree.unary o s,
-      (omega (arith, h.0, r.1.0), r.1.1, λ k. h.2 k ∙ ap (λ y. outcome (headed y k) (drop mid text)) e ∙ r.1.2 (under o ∷ k) ∙ under_read o s k (drop p.end text)),
-      omega (arith, r.2),
-      subst (Adds t u) (joined s n₁ n₂) (adds_join t t₁ u _ _ a (adds_join t₁ t₂ u _ _ r.3 b)),
-      omega (arith, size_prefix o negated s, ap (λ y. size (polar y s)) i, r.4),
-      omega (arith, r.5),
-    )
-  where
-    joined : (s : Tree) → t₁.count ≡ t.count + length (leading o negated) → t₂.count - 1 ≡ t.count + length (leading o negated) + size (polar inner s) - 1 → leading o negated ++ (numbered t₁.count (polar inner s) ++ trailing o negated t.count (t₂.count - 1)) ≡ numbered t.count (polar negated (Tree.unary o s))
-    joined s n₁ n₂ = rw (n₁, n₂, i) (sym (numbered_prefix t.count o negated s))
+    pub part_prefix : (r₂ : Reader) (u : ClauseList) (depth : ℕ) → Adds r.list r₁.list (option_to_list (leading o negated)) → PartRead (flip o negated) r₁ r₂ depth → Adds r₂.list u (option_to_list (trailing o negated r.list.count (r₂.list.count - 1))) → PartRead negated r (record { rest = r₂.rest; list = u }) (depth + 1)
+    part_prefix r₂ u depth a p b =
+        let s = p.spelled in
+        let inner = flip o negated in
+        let z = length_numbered r₁.list.count (polar inner s) in
+        let n₁ : r₁.list.count ≡ r.list.count + length (option_to_list (leading o negated)) = a.0 in
+        let n₂ : r₂.list.count - 1 ≡ r.list.count + length (option_to_list (leading o negated)) + size (polar inner s) - 1 = omega (arith, p.adds.0) in
+        record {
+          spelled = Tree.unary o s;
+          leads = λ k. h.1 k ∙ p.leads (under o ∷ k) ∙ under_read o s k r₂.rest;
+          nested = omega (arith, p.nested);
+          adds = subst (Adds r.list u) (joined s n₁ n₂) (adds_join r.list r₁.list u _ _ a (adds_join r₁.list r₂.list u _ _ p.adds b));
+          few = omega (arith, h.0, size_prefix o negated s, p.few);
+          shallow = omega (arith, h.0, p.shallow);
+        }
+      where
+        joined : (s : Tree) → r₁.list.count ≡ r.list.count + length (option_to_list (leading o negated)) → r₂.list.count - 1 ≡ r.list.count + length (option_to_list (leading o negated)) + size (polar (flip o negated) s) - 1 → option_to_list (leading o negated) ++ (numbered r₁.list.count (polar (flip o negated) s) ++ option_to_list (trailing o negated r.list.count (r₂.list.count - 1))) ≡ numbered r.list.count (polar negated (Tree.unary o s))
+        joined s n₁ n₂ = rw (n₁, n₂) (sym (numbered_prefix r.list.count o negated s))
 
-pub part_pair : (text : List ℕ) (at mid : ℕ) (negated : Bool) (t t₁ t₂ u : ClauseList) (x : Head) (c : Bracket) (p q : Part) (g : Joint) (o : Operator) (end d : ℕ) → at < mid → Leads text at mid want (headed x) → x ≡ Head.Open c → ReadsPart text mid negated t t₁ (Ok p) → Joins text p.end c (Ok g) → ReadsPart text g.end negated t₁ t₂ (Ok q) → Closes text q.end (Ok end) → o ≡ turn_operator negated g.operator → d ≡ max p.nesting q.nesting → Adds t₂ u (Clause.Pair o (t₁.count - 1) (t₂.count - 1) ∷ []) → ReadsPart text at negated t u (Ok (record { end = end; nesting = d + 1 }))
-part_pair text at mid negated t t₁ t₂ u x c p q g o end d l h e f i r j w m b =
-    let s = f.0 in
-    let v = r.0 in
-    let k₁ = f.3.0 in
-    let k₂ = r.3.0 in
-    let z₁ = length_numbered t.count (polar negated s) in
-    let z₂ = length_numbered t₁.count (polar negated v) in
-    let n₁ : t₁.count ≡ t.count + size (polar negated s) = omega arith in
-    let n₂ : t₂.count ≡ t.count + size (polar negated s) + size (polar negated v) = omega arith in (
-      Tree.binary g.operator s v,
-      (
-        omega (arith, h.0, f.1.0, i.0, r.1.0, j.0),
-        j.1,
-        λ k. h.2 k ∙ ap (λ y. outcome (headed y k) (drop mid text)) e ∙ f.1.2 (left c ∷ k) ∙ i.2 s k ∙ r.1.2 (right g.operator s ∷ k) ∙ j.2 g.operator s v k,
-      ),
-      ap (λ a. a + 1) m ∙ ap₂ (λ a b. max a b + 1) f.2 r.2 ∙ omega arith,
-      subst (Adds t u) (joined s v n₁ n₂) (adds_join t t₁ u _ _ f.3 (adds_join t₁ t₂ u _ _ r.3 b)),
-      omega (arith, size_pair g.operator negated s v, f.4, r.4, h.0, i.0, j.0),
-      omega (arith, f.5, r.5, h.0, i.0, j.0, f.1.0, r.1.0),
-    )
-  where
-    joined : (s v : Tree) → t₁.count ≡ t.count + size (polar negated s) → t₂.count ≡ t.count + size (polar negated s) + size (polar negated v) → numbered t.count (polar negated s) ++ (numbered t₁.count (polar negated v) ++ Clause.Pair o (t₁.count - 1) (t₂.count - 1) ∷ []) ≡ numbered t.count (polar negated (Tree.binary g.operator s v))
-    joined s v n₁ n₂ = rw (n₁, n₂, w) (sym (numbered_pair t.count g.operator negated s v))
+  module _ (c : Bracket) (x₀ : List ℕ) (h : Reads want headed r.rest x₀ (Ok (Head.Open c))) where
+    pub left_stops : (n : ℕ) → Stops want x₀ n → Stops want r.rest n
+    left_stops n s = (omega (arith, h.0, s.0), λ k. h.1 k ∙ s.1 (left c ∷ k))
 
-pub part_made : (text : List ℕ) (at : ℕ) (negated : Bool) (t u : ClauseList) (end depth : ℕ) (p : Part) → p.end ≡ end → p.nesting ≡ depth → ReadsPart text at negated t u (Ok (record { end = end; nesting = depth })) → ReadsPart text at negated t u (Ok p)
-part_made text at negated t u end depth p e f h =
-    let make : ℕ → ℕ → Part = λ x y. record { end = x; nesting = y } in
-    subst (λ q. ReadsPart text at negated t u (Ok q)) (ap₂ make (sym e) (sym f)) h
+    module _ (r₁ : Reader) (m : ℕ) (p : PartRead negated (record { rest = x₀; list = r.list }) r₁ m) where
+      far : length r₁.rest < length r.rest
+      far = omega (arith, h.0, (counted negated _ r₁ m p).2)
+
+      pub operator_stops : (n : ℕ) → Stops (between_rules c) r₁.rest n → Stops want r.rest n
+      operator_stops n s = (omega (arith, far, s.0), λ k. h.1 k ∙ p.leads (left c ∷ k) ∙ s.1 (p.spelled, k))
+
+      module _ (o : Operator) (x₁ : List ℕ) (g : Reads (between_rules c) joined_by r₁.rest x₁ (Ok o)) where
+        pub right_stops : (n : ℕ) → Stops want x₁ n → Stops want r.rest n
+        right_stops n s = (omega (arith, far, g.0, s.0), λ k. h.1 k ∙ p.leads (left c ∷ k) ∙ g.1 (p.spelled, k) ∙ s.1 (right o p.spelled ∷ k))
+
+        module _ (r₂ : Reader) (n : ℕ) (q : PartRead negated (record { rest = x₁; list = r₁.list }) r₂ n) where
+          further : length r₂.rest < length x₁
+          further = (counted negated _ r₂ n q).2
+
+          pub closing_stops : (j : ℕ) → Stops in_bracket r₂.rest j → Stops want r.rest j
+          closing_stops j s = (omega (arith, far, further, g.0, s.0), λ k. h.1 k ∙ p.leads (left c ∷ k) ∙ g.1 (p.spelled, k) ∙ q.leads (right o p.spelled ∷ k) ∙ s.1 ((o, p.spelled), (q.spelled, k)))
+
+          pub part_pair : (x₂ : List ℕ) (u : ClauseList) → Reads in_bracket closed r₂.rest x₂ (Ok tt) → Adds r₂.list u (Clause.Pair (cond negated (other_operator o) o) (r₁.list.count - 1) (r₂.list.count - 1) ∷ []) → PartRead negated r (record { rest = x₂; list = u }) (max m n + 1)
+          part_pair x₂ u e b =
+              let s = p.spelled in
+              let v = q.spelled in
+              let z₁ = length_numbered r.list.count (polar negated s) in
+              let z₂ = length_numbered r₁.list.count (polar negated v) in
+              let n₁ : r₁.list.count ≡ r.list.count + size (polar negated s) = omega (arith, p.adds.0) in
+              let n₂ : r₂.list.count ≡ r.list.count + size (polar negated s) + size (polar negated v) = omega (arith, q.adds.0) in
+              record {
+                spelled = Tree.binary o s v;
+                leads = λ k. h.1 k ∙ p.leads (left c ∷ k) ∙ g.1 (s, k) ∙ q.leads (right o s ∷ k) ∙ e.1 ((o, s), (v, k));
+                nested = ap₂ (λ a b. max a b + 1) p.nested q.nested ∙ omega arith;
+                adds = subst (Adds r.list u) (joined n₁ n₂) (adds_join r.list r₁.list u _ _ p.adds (adds_join r₁.list r₂.list u _ _ q.adds b));
+                few = omega (arith, size_pair o negated s v, p.few, q.few, h.0, g.0, e.0);
+                shallow = omega (arith, p.shallow, q.shallow, h.0, g.0, e.0);
+              }
+            where
+              joined : r₁.list.count ≡ r.list.count + size (polar negated p.spelled) → r₂.list.count ≡ r.list.count + size (polar negated p.spelled) + size (polar negated q.spelled) → numbered r.list.count (polar negated p.spelled) ++ (numbered r₁.list.count (polar negated q.spelled) ++ Clause.Pair (cond negated (other_operator o) o) (r₁.list.count - 1) (r₂.list.count - 1) ∷ []) ≡ numbered r.list.count (polar negated (Tree.binary o p.spelled q.spelled))
+              joined n₁ n₂ = rw (n₁, n₂) (sym (numbered_pair r.list.count o negated p.spelled q.spelled))
+
+-- the whole text: what is left after the rule and the spaces behind it
+module _ (r q : Reader) (depth : ℕ) (p : PartRead false r q depth) (end : List ℕ) (skip : end ≡ drop (spaces q.rest) q.rest) where
+  at_end : outcome (want []) r.rest ≡ outcome (have p.spelled []) end
+  at_end = p.leads [] ∙ skipped (have p.spelled []) q.rest (spacious_have p.spelled []) ∙ ap (outcome (have p.spelled [])) (sym skip)
+
+  pub whole_read : true ≡ eqb (length end) 0 → outcome (want []) r.rest ≡ accepted p.spelled
+  whole_read e = at_end ∙ ended_read p.spelled end (eqb-true _ 0 (sym e))
+
+  pub whole_stops : (n : ℕ) → n ≡ length end → false ≡ eqb (length end) 0 → (n ≤ length r.rest) × (outcome (want []) r.rest ≡ stuck n)
+  whole_stops n l e =
+      let far = counted false r q depth p in
+      (omega (arith, length-drop (spaces q.rest) q.rest, ap length skip), at_end ∙ more_read p.spelled end e (λ b bs f. no_space q.rest b bs (sym skip ∙ f)) ∙ ap stuck (sym l))

@@ -1,94 +1,120 @@
--- What the pieces at a place of the text do to the reader's state.
-use Rattle.std.proofs.Common.{◌≡◌, ℕ, suc, ◌+◌, ◌-◌, ◌<◌, ◌≤◌, true, false, ◌&&◌, eqb, leb, ◌≢◌, ◌⊎◌, List, [], ◌∷◌, length, get_or, drop, IfOk, Some, None, Ok, Err, Option, Result, sym, refl, ap, ◌∙◌, inl, inr, add-one, arith, drop-cons}
-use Rattle.std.proofs.lemmas.Bool.{ne_eqb, cond-false, le-leb, lt-leb, and_from, and_left, and_right}
+-- What the pieces at the start of the text do to the state of the reader of single bytes.
+use Rattle.std.proofs.Common.{◌≡◌, ℕ, ◌+◌, ◌≢◌, List, [], ◌∷◌, drop, Some, None, Ok, Err, Option, Result, sym, refl, ap, ◌∙◌, arith, length-drop}
+use Rattle.std.specs.Prelude.{option_map}
+use Rattle.std.specs.Fn.{Shared, FnReturns}
+use Rattle.std.specs.Result.{IsErrAnd, MatchResult}
+use Rattle.std.proofs.lemmas.Bool.{ne_eqb}
+use Rattle.std.proofs.lemmas.Result.{err_from_is_err_and}
 use Rattle.rules.specs.declared.syntax.Quantifier.{Quantifier}
 use Rattle.rules.specs.declared.syntax.Operator.{Operator}
 use Rattle.rules.specs.declared.pieces.Bracket.{Bracket}
+use Rattle.rules.specs.declared.pieces.Head.{Head}
 use Rattle.rules.specs.declared.pieces.Start.{Start}
-use Rattle.rules.specs.declared.pieces.Follow.{Follow}
-use Rattle.rules.specs.reader.Bytes.{start_of, follow_of, joining}
+use Rattle.rules.specs.declared.pieces.Stuck.{Stuck}
+use Rattle.rules.specs.reader.Bytes.{start_of, follow_of, joining, digit_of, closes}
 use Rattle.rules.specs.Trees.{Tree}
-use Rattle.rules.specs.reader.Machine.{Frame, left, right, State, want, have, digit_wanted, after_one, letter, begin, go_on, joined, after, step, stuck, finish, outcome}
-use Rattle.rules.specs.declared.pieces.Found.{Found}
-use Rattle.rules.specs.reader.Scans.{Spacious, Skips, Leads, Stops, Heads, headed}
-use Rattle.rules.proofs.Steps.{moves, stops, spacious_want}
+use Rattle.rules.specs.reader.Machine.{State, want, have, digit_wanted, after_one, letter, headed, started, after_digit, after, second, step, stuck, ended, finish, outcome}
+use Rattle.rules.specs.reader.Scans.{spaces, Takes, Goes, Stops, Reads, marked, between_rules, joined_by, in_bracket, closed}
+use Rattle.rules.proofs.Steps.{goes, stays, Spacious, spacious_want, spacious_have, skipped, no_space}
 
-pub lead_one : (text : List ℕ) (at : ℕ) (σ τ : List Frame → State) → ((k : List Frame) → step (σ k) (get_or text at 0) ≡ Some (τ k)) → Leads text at (at + 1) σ τ
-lead_one text at σ τ h =
-    let l = (moves text at (σ []) (τ []) (h [])).0 in
-    (omega arith, omega arith, λ k. (moves text at (σ k) (τ k) (h k)).1)
+-- a byte is taken where the step of each state goes by what the byte means, and no rule ends
+pub taken : {K X : Type 0} (σ : K → State) (τ : X → K → State) (f : ℕ → Option X) {F : Type 0} (g : Shared F (ℕ × Unit {0}) (Option X)) (c : F) (old new : List ℕ) (r : Result X Stuck)
+    → ((k : K) (b : ℕ) (bs : List ℕ) → old ≡ b ∷ bs → step (σ k) b ≡ option_map (λ x. τ x k) (f b))
+    → ((k : K) → finish (σ k) ≡ stuck 0)
+    → Takes g c old new r
+    → ((b : ℕ) (o : Option X) → FnReturns g c (b, tt) o → o ≡ f b)
+    → Reads σ τ old new r
+unfolding outcome
+taken σ τ f g c old new (Ok x) s e t h = (
+  rw t.1 (omega arith),
+  λ k. ap (outcome (σ k)) t.1 ∙ goes (σ k) (τ x k) t.0 new (s k t.0 new t.1 ∙ ap (option_map (λ x. τ x k)) (sym (h t.0 (Some x) t.2))),
+)
+taken σ τ f g c [] new (Err d) s e t h = (omega (arith, t.1), λ k. e k ∙ ap stuck (sym t.1))
+taken σ τ f g c (b ∷ bs) new (Err d) s e t h = (
+  omega (arith, t.1),
+  λ k. stays (σ k) b bs (s k b bs refl ∙ ap (option_map (λ x. τ x k)) (sym (h b None (t.2 b bs refl)))) ∙ ap stuck (sym t.1),
+)
 
-pub stop_here : (text : List ℕ) (at : ℕ) (σ : List Frame → State) → at ≤ length text → ((k : List Frame) → finish (σ k) ≡ stuck 0) → ((k : List Frame) → step (σ k) (get_or text at 0) ≡ None) → Stops text at at σ
-stop_here text at σ low f h = (low, λ k. stops text at (σ k) low (f k) (h k))
+-- after spaces, which change nothing
+pub after_spaces : {K X : Type 0} (σ : K → State) (τ : X → K → State) (old new : List ℕ) (r : Result X Stuck)
+    → ((k : K) → Spacious (σ k))
+    → Reads σ τ (drop (spaces old) old) new r
+    → Reads σ τ old new r
+after_spaces σ τ old new (Ok x) sp h =
+    let l = length-drop (spaces old) old in
+    (omega (arith, h.0), λ k. skipped (σ k) old (sp k) ∙ h.1 k)
+after_spaces σ τ old new (Err e) sp h =
+    let l = length-drop (spaces old) old in
+    (omega (arith, h.0), λ k. skipped (σ k) old (sp k) ∙ h.1 k)
 
-pub leads_then : (text : List ℕ) (at mid end : ℕ) (σ τ υ : List Frame → State) → Leads text at mid σ τ → Leads text mid end τ υ → Leads text at end σ υ
-leads_then text at mid end σ τ υ f g = (omega arith, g.1, λ k. f.2 k ∙ g.2 k)
+-- and after a piece: a piece, or what is no piece of its own
+pub then_reads : {K X Y : Type 0} (σ : K → State) (υ : X → K → State) (τ : Y → K → State) (old mid new : List ℕ) (x : X) (r : Result Y Stuck)
+    → Reads σ υ old mid (Ok x)
+    → Reads (υ x) τ mid new r
+    → Reads σ τ old new r
+then_reads σ υ τ old mid new x (Ok y) g h = (omega (arith, g.0, h.0), λ k. g.1 k ∙ h.1 k)
+then_reads σ υ τ old mid new x (Err e) g h = (omega (arith, g.0, h.0), λ k. g.1 k ∙ h.1 k)
 
-leads_stop : (text : List ℕ) (at mid end : ℕ) (σ τ : List Frame → State) → Leads text at mid σ τ → Stops text mid end τ → Stops text at end σ
-leads_stop text at mid end σ τ f g = (g.0, λ k. f.2 k ∙ g.1 k)
+pub then_goes : {K X Y : Type 0} (σ : K → State) (υ : X → K → State) (τ : Y → K → State) (old mid new : List ℕ) (x : X) (y : Y)
+    → Reads σ υ old mid (Ok x)
+    → Goes (υ x) τ mid new y
+    → Reads σ τ old new (Ok y)
+then_goes σ υ τ old mid new x y g h = (omega (arith, g.0, h.0), λ k. g.1 k ∙ h.1 k)
 
-skip_leads : (text : List ℕ) (at end : ℕ) (σ : List Frame → State) → ((k : List Frame) → Spacious (σ k)) → Skips text at end → Leads text at end σ σ
-skip_leads text at end σ sp h = (h.0, h.1, λ k. h.3 (σ k) (sp k))
+-- where no rule goes on, what is wanted makes no difference
+pub stopped : {K Y : Type 0} (σ : K → State) (τ : Y → K → State) (old new : List ℕ) (e : Stuck) (r : Result Y Stuck)
+    → IsErrAnd r (λ d. d ≡ e)
+    → Stops σ old e.left
+    → Reads σ τ old new r
+stopped σ τ old new e r q h = let p = err_from_is_err_and r q in rw (p.1, p.2) h
 
-pub one_space : (text : List ℕ) (at : ℕ) (σ : State) → at < length text → get_or text at 0 ≡ 32 → Spacious σ → outcome σ (drop at text) ≡ outcome σ (drop (at + 1) text)
-one_space text at σ l e sp = rw (add-one, drop-cons text at 0 l, e) (sp (drop (suc at) text))
+-- the pieces
+pub began : (old new : List ℕ) (r : Result Start Stuck) {F : Type 0} (g : Shared F (ℕ × Unit {0}) (Option Start)) (c : F)
+    → Takes g c (drop (spaces old) old) new r
+    → ((b : ℕ) (o : Option Start) → FnReturns g c (b, tt) o → o ≡ start_of b)
+    → Reads want started old new r
+unfolding step finish
+began old new r g c t h = after_spaces want started old new r spacious_want (taken want started start_of g c (drop (spaces old) old) new r (λ k b bs e. rw (no_space old b bs e) refl) (λ k. refl) t h)
 
--- what a byte does
-at_start : (b : ℕ) (x : Start) (k : List Frame) → eqb b 32 ≡ false → x ≡ start_of b → step (want k) b ≡ begin x k
-unfolding step
-at_start b x k e h = cond-false (eqb b 32) (Some (want k)) (begin (start_of b) k) e ∙ ap (λ y. begin y k) (sym h)
+pub followed : (q : Quantifier) (old new : List ℕ) (r : Result Head Stuck) {F : Type 0} (g : Shared F (ℕ × Unit {0}) (Option Head)) (c : F)
+    → Takes g c old new r
+    → ((b : ℕ) (o : Option Head) → FnReturns g c (b, tt) o → o ≡ follow_of q b)
+    → Reads (letter q) headed old new r
+unfolding step finish
+followed q old new r g c t h = taken (letter q) headed (follow_of q) g c old new r (λ k b bs e. refl) (λ k. refl) t h
 
-pub at_letter : (b : ℕ) (q : Quantifier) (x : Follow) (k : List Frame) → x ≡ follow_of q b → step (letter q k) b ≡ go_on q x k
-unfolding step
-at_letter b q x k h = ap (λ y. go_on q y k) (sym h)
+pub digit_read : (old new : List ℕ) (r : Result ℕ Stuck) {F : Type 0} (g : Shared F (ℕ × Unit {0}) (Option ℕ)) (c : F)
+    → Takes g c old new r
+    → ((b : ℕ) (o : Option ℕ) → FnReturns g c (b, tt) o → o ≡ digit_of 9 b)
+    → Reads digit_wanted after_digit old new r
+unfolding step finish
+digit_read old new r g c t h = taken digit_wanted after_digit (digit_of 9) g c old new r (λ k b bs e. refl) (λ k. refl) t h
 
-pub at_sign : (b : ℕ) (c : Bracket) (x : Option Operator) (s : Tree) (k : List Frame) → eqb b 32 ≡ false → x ≡ joining c b → step (have s (left c ∷ k)) b ≡ joined x s k
-unfolding step after
-at_sign b c x s k e h = cond-false (eqb b 32) (Some (have s (left c ∷ k))) (joined (joining c b) s k) e ∙ ap (λ y. joined y s k) (sym h)
+pub operator_read : (k : Bracket) (old new : List ℕ) (r : Result Operator Stuck) {F : Type 0} (g : Shared F (ℕ × Unit {0}) (Option Operator)) (c : F)
+    → Takes g c (drop (spaces old) old) new r
+    → ((b : ℕ) (o : Option Operator) → FnReturns g c (b, tt) o → o ≡ joining k b)
+    → Reads (between_rules k) joined_by old new r
+unfolding step after finish ended
+operator_read k old new r g c t h = after_spaces (between_rules k) joined_by old new r (λ j. spacious_have j.0 _) (taken (between_rules k) joined_by (joining k) g c (drop (spaces old) old) new r (λ j b bs e. rw (no_space old b bs e) refl) (λ k. refl) t h)
 
-pub at_close : (b : ℕ) (o : Operator) (r s : Tree) (k : List Frame) → b ≡ 41 → step (have s (right o r ∷ k)) b ≡ Some (have (Tree.binary o r s) k)
-unfolding step after
-at_close b o r s k e = rw e refl
+pub closing_read : (old new : List ℕ) (r : Result (Unit {0}) Stuck) {F : Type 0} (g : Shared F (ℕ × Unit {0}) (Option (Unit {0}))) (c : F)
+    → Takes g c (drop (spaces old) old) new r
+    → ((b : ℕ) (o : Option (Unit {0})) → FnReturns g c (b, tt) o → o ≡ closes b)
+    → Reads in_bracket closed old new r
+unfolding step after finish ended
+closing_read old new r g c t h = after_spaces in_bracket closed old new r (λ k. spacious_have k.1.0 _) (taken in_bracket closed closes g c (drop (spaces old) old) new r (λ k b bs e. rw (no_space old b bs e) refl) (λ k. refl) t h)
 
-pub not_close : (b : ℕ) (o : Operator) (r s : Tree) (k : List Frame) → eqb b 32 ≡ false → b ≢ 41 → step (have s (right o r ∷ k)) b ≡ None
-unfolding step after
-not_close b o r s k e n = rw (e, ne_eqb b 41 n) refl
+-- a digit that is no 1 is the whole number
+pub digit_alone : (old new : List ℕ) (n : ℕ) → n ≢ 1 → Reads digit_wanted after_digit old new (Ok n) → Reads digit_wanted marked old new (Ok n)
+digit_alone old new n ne h = (h.0, λ k. h.1 k ∙ ap (λ σ. outcome σ new) (rw (ne_eqb n 1 ne) refl))
 
-pub at_one : (b : ℕ) (k : List Frame) → b ≡ 49 → step (digit_wanted k) b ≡ Some (after_one k)
-unfolding step
-at_one b k e = rw e refl
-
-between : (b low high : ℕ) → low ≤ b → b ≤ high → (leb low b && leb b high) ≡ true
-between b low high l h = and_from (leb low b) (leb b high) (le-leb low b l) (le-leb b high h)
-
-pub outside : (b low high : ℕ) → (b < low) ⊎ ((low ≤ b) × (high < b)) → (leb low b && leb b high) ≡ false
-outside b low high (inl l) = and_left (leb low b) (leb b high) (lt-leb low b l)
-outside b low high (inr h) = and_right (leb low b) (leb b high) (lt-leb b high h.1)
-
-pub at_digit : (b : ℕ) (k : List Frame) → b ≢ 49 → 48 ≤ b → b ≤ 57 → step (digit_wanted k) b ≡ Some (have (Tree.mark (b - 48)) k)
-unfolding step
-at_digit b k n l h = rw (ne_eqb b 49 n, between b 48 57 l h) refl
-
-pub not_digit : (b : ℕ) (k : List Frame) → b ≢ 49 → (b < 48) ⊎ ((48 ≤ b) × (57 < b)) → step (digit_wanted k) b ≡ None
-unfolding step
-not_digit b k n h = rw (ne_eqb b 49 n, outside b 48 57 h) refl
-
-pub at_after_one : (b : ℕ) (k : List Frame) → 48 ≤ b → b ≤ 53 → step (after_one k) b ≡ Some (have (Tree.mark (b - 38)) k)
-unfolding step
-at_after_one b k l h = rw (between b 48 53 l h) refl
-
--- the first piece of a rule, after spaces
-pub begun : (text : List ℕ) (at first b : ℕ) (x : Start) (τ : List Frame → State) → Skips text at first → b ≡ get_or text first 0 → x ≡ start_of b → ((k : List Frame) → begin x k ≡ Some (τ k)) → Leads text at (first + 1) want τ
-begun text at first b x τ h e s t =
-    leads_then text at first (first + 1) want want τ (skip_leads text at first want spacious_want h)
-    (lead_one text first want τ (λ k. at_start (get_or text first 0) x k h.2 (s ∙ ap start_of e) ∙ t k))
-
-pub not_begun : (text : List ℕ) (at first b : ℕ) (x : Start) → Skips text at first → b ≡ get_or text first 0 → x ≡ start_of b → ((k : List Frame) → begin x k ≡ None) → Stops text at first want
-unfolding finish
-not_begun text at first b x h e s t =
-    leads_stop text at first first want want (skip_leads text at first want spacious_want h)
-    (stop_here text first want h.1 (λ k. refl) (λ k. at_start (get_or text first 0) x k h.2 (s ∙ ap start_of e) ∙ t k))
-
-pub heads_then : (text : List ℕ) (at mid : ℕ) (σ τ : List Frame → State) (r : Result Found ℕ) → at < mid → Leads text at mid σ τ → Heads text mid τ r → Heads text at σ r × IfOk r (λ f. at < f.end)
-heads_then text at mid σ τ (Ok f) l h g = (leads_then text at mid f.end σ τ (headed f.head) h g, omega arith)
-heads_then text at mid σ τ (Err end) l h g = (leads_stop text at mid end σ τ h g, tt)
+-- after p1, a second digit or none
+pub second_read : (old new : List ℕ) (r : Result ℕ Stuck) {F : Type 0} (g : Shared F (ℕ × Unit {0}) (Option ℕ)) (c : F) (m : ℕ)
+    → Takes g c old new r
+    → ((b : ℕ) (o : Option ℕ) → FnReturns g c (b, tt) o → o ≡ digit_of 5 b)
+    → MatchResult r (λ n. m ≡ 10 + n) (λ _. m ≡ 1)
+    → Goes after_one marked old new m
+unfolding outcome step second finish
+second_read old new (Ok n) g c m t h e = (rw t.1 (omega arith), λ k. rw e (ap (outcome (after_one k)) t.1 ∙ goes (after_one k) (have (Tree.mark (10 + n)) k) t.0 new (ap (λ o. second o k t.0) (sym (h t.0 (Some n) t.2)))))
+second_read [] new (Err d) g c m t h e = (rw t.0 (omega arith), λ k. rw (e, t.0) refl)
+second_read (b ∷ bs) new (Err d) g c m t h e = (rw t.0 (omega arith), λ k. rw (e, t.0, ← h b None (t.2 b bs refl)) refl)

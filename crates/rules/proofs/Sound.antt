@@ -1,16 +1,17 @@
 -- What the reader that takes one byte at a time reads is a rule of the grammar.
-use Rattle.std.proofs.Common.{◌≡◌, ℕ, zero, suc, ◌+◌, ◌-◌, ◌<◌, ◌≤◌, Bool, true, false, cond, ◌&&◌, eqb, leb, List, [], ◌∷◌, ◌++◌, length, replicate, Some, None, codes, Option, sym, refl, ap, ◌∙◌, subst, append_assoc, append-nil, arith}
-use Rattle.std.proofs.lemmas.Bool.{eqb-true, leb-true, and_parts, lt-ltb, le-ltb, cond_both}
+use Rattle.std.proofs.Common.{◌≡◌, ℕ, zero, suc, ◌+◌, ◌<◌, ◌≤◌, Bool, true, false, cond, ◌&&◌, eqb, leb, List, [], ◌∷◌, ◌++◌, length, replicate, Some, None, codes, Option, sym, refl, ap, ◌∙◌, subst, inl, inr, ◌⊎◌, append_assoc, append-nil, arith}
+use Rattle.std.specs.Prelude.{option_map}
+use Rattle.std.proofs.lemmas.Bool.{cases_eq, ne_eqb, eqb-true, leb-true, and_parts, lt-ltb, le-ltb, cond_both}
 use Rattle.rules.specs.declared.syntax.Quantifier.{Quantifier}
 use Rattle.rules.specs.declared.pieces.Prefix.{Prefix}
 use Rattle.rules.specs.declared.syntax.Operator.{Operator}
 use Rattle.rules.specs.declared.pieces.Bracket.{Bracket}
 use Rattle.rules.specs.declared.pieces.Start.{Start}
-use Rattle.rules.specs.declared.pieces.Follow.{Follow}
-use Rattle.rules.specs.reader.Bytes.{start_of, follow_of, joining}
+use Rattle.rules.specs.declared.pieces.Head.{Head}
+use Rattle.rules.specs.reader.Bytes.{start_of, follow_of, joining, digit_of, closes}
 use Rattle.rules.specs.Trees.{Tree}
 use Rattle.rules.specs.Grammar.{Spells, a_constant, a_mark, a_prefix, a_pair, space_before, space_after, digit, numeral, letter as letters, in_front, opening, between, Begins}
-use Rattle.rules.specs.reader.Machine.{Frame, under, left, right, State, want, have, digit_wanted, after_one, letter, begin, go_on, joined, after, step, accepted, ended, finish, continue, outcome}
+use Rattle.rules.specs.reader.Machine.{Frame, under, left, right, State, want, have, digit_wanted, after_one, letter, headed, started, after_digit, after, second, step, accepted, ended, finish, continue, outcome}
 use Rattle.rules.proofs.Complete.{bracket}
 
 -- spaces after a rule
@@ -54,14 +55,24 @@ wraps_begins (left c ∷ k) s pre h = shorter pre _ (wraps_begins k _ _ (h 0 (so
     some_sign (Bracket.Quantified Quantifier.E) = (Operator.EU, refl)
 wraps_begins (right o r ∷ k) s pre h = shorter pre _ (wraps_begins k _ _ (h 0))
 
+-- how a bracket is written
+abbrev opens : Bracket → List ℕ
+opens Bracket.Plain = codes "("
+opens (Bracket.Quantified q) = letters q ++ codes "("
+
+-- how a piece is written
+abbrev Written : Head → List ℕ → Type 0
+Written (Head.Constant v) bs = bs ≡ digit v
+Written (Head.Mark m) bs = (m < 16) × (bs ≡ codes "p" ++ numeral m)
+Written (Head.Prefix o) bs = bs ≡ in_front o
+Written (Head.Open c) bs = bs ≡ opens c
+
 -- what the bytes mean
-abbrev Begun : ℕ → Start → Type 0
-Begun b (Start.Constant v) = (b ∷ []) ≡ digit v
-Begun b Start.Mark = (b ∷ []) ≡ codes "p"
-Begun b Start.Not = (b ∷ []) ≡ codes "!"
-Begun b (Start.Letter q) = (b ∷ []) ≡ letters q
-Begun b Start.Open = (b ∷ []) ≡ codes "("
-Begun b Start.Other = Unit {0}
+abbrev Begun : ℕ → Option Start → Type 0
+Begun b (Some (Start.Piece h)) = Written h (b ∷ [])
+Begun b (Some Start.Mark) = (b ∷ []) ≡ codes "p"
+Begun b (Some (Start.Letter q)) = (b ∷ []) ≡ letters q
+Begun b None = Unit {0}
 
 one : (b c : ℕ) → eqb b c ≡ true → (b ∷ []) ≡ (c ∷ [])
 one b c e = ap (λ x. x ∷ []) (eqb-true b c e)
@@ -76,17 +87,16 @@ begun_of b =
     cond_both (eqb b 69) _ _ (Begun b) (one b 69) λ _.
     cond_both (eqb b 40) _ _ (Begun b) (one b 40) λ _. tt
 
-abbrev Followed : Quantifier → ℕ → Follow → Type 0
-Followed q b (Follow.Prefix o) = letters q ++ b ∷ [] ≡ in_front o
-Followed q b Follow.Open = (b ∷ []) ≡ codes "("
-Followed q b Follow.Other = Unit {0}
+abbrev Followed : Quantifier → ℕ → Option Head → Type 0
+Followed q b (Some h) = Written h (letters q ++ b ∷ [])
+Followed q b None = Unit {0}
 
 followed_of : (q : Quantifier) (b : ℕ) → Followed q b (follow_of q b)
 followed_of q b =
     cond_both (eqb b 88) _ _ (Followed q b) (λ e. ap (λ x. letters q ++ x) (one b 88 e)) λ _.
     cond_both (eqb b 71) _ _ (Followed q b) (λ e. ap (λ x. letters q ++ x) (one b 71 e)) λ _.
     cond_both (eqb b 70) _ _ (Followed q b) (λ e. ap (λ x. letters q ++ x) (one b 70 e)) λ _.
-    cond_both (eqb b 40) _ _ (Followed q b) (one b 40) λ _. tt
+    cond_both (eqb b 40) _ _ (Followed q b) (λ e. ap (λ x. letters q ++ x) (one b 40 e)) λ _. tt
 
 abbrev Signed : Bracket → ℕ → Option Operator → Type 0
 Signed c b (Some o) = (bracket o ≡ c) × (between o ≡ b ∷ [])
@@ -117,11 +127,6 @@ open_bracket k c pre piece f h = λ s x sp n o e q d sq.
     seam : (o : Operator) → bracket o ≡ c → (x : List ℕ) (n : ℕ) (d : List ℕ) → pre ++ (opening o ++ ((x ++ replicate n 32) ++ (between o ++ (d ++ codes ")")))) ≡ ((pre ++ piece) ++ x) ++ (replicate n 32 ++ (between o ++ (d ++ codes ")")))
     seam o e x n d = rw (f o e) (simp append_assoc)
 
--- how a bracket is written
-abbrev opens : Bracket → List ℕ
-opens Bracket.Plain = codes "("
-opens (Bracket.Quantified q) = letters q ++ codes "("
-
 opening_bracket : (o : Operator) → opening o ≡ opens (bracket o)
 opening_bracket Operator.And = refl
 opening_bracket Operator.Or = refl
@@ -137,23 +142,24 @@ opened_by c o e = opening_bracket o ∙ ap opens e
 under_operator : (k : List Frame) (o : Prefix) (pre piece : List ℕ) → in_front o ≡ piece → Reached (want k) pre → Reached (want (under o ∷ k)) (pre ++ piece)
 under_operator k o pre piece e h = λ s c sp. subst (Wraps k (Tree.unary o s)) (ap (λ x. pre ++ (x ++ c)) e ∙ sym (append_assoc pre piece c)) (h (Tree.unary o s) (in_front o ++ c) (a_prefix o sp))
 
-on_begin : (x : Start) (b : ℕ) (k : List Frame) (pre : List ℕ) → Begun b x → Reached (want k) pre → Onward (begin x k) (pre ++ b ∷ [])
-unfolding begin
-on_begin (Start.Constant v) b k pre e h = subst (λ y. Wraps k (Tree.constant v) (pre ++ y)) (sym e) (h (Tree.constant v) (digit v) (a_constant v))
-on_begin Start.Mark b k pre e h = λ m low. subst (λ y. Wraps k (Tree.mark m) y) (ap (λ y. pre ++ (y ++ numeral m)) (sym e) ∙ sym (append_assoc pre (b ∷ []) (numeral m))) (h (Tree.mark m) (codes "p" ++ numeral m) (a_mark m low))
-on_begin Start.Not b k pre e h = under_operator k Prefix.Not pre (b ∷ []) (sym e) h
-on_begin (Start.Letter q) b k pre e h = (pre, ap (λ y. pre ++ y) e, h)
-on_begin Start.Open b k pre e h = open_bracket k Bracket.Plain pre (b ∷ []) (λ o g. opened_by Bracket.Plain o g ∙ sym e) h
-on_begin Start.Other b k pre e h = tt
+-- a piece
+on_head : (h : Head) (k : List Frame) (pre piece : List ℕ) → Written h piece → Reached (want k) pre → Reached (headed h k) (pre ++ piece)
+on_head (Head.Constant v) k pre piece e h = subst (λ y. Wraps k (Tree.constant v) (pre ++ y)) (sym e) (h (Tree.constant v) (digit v) (a_constant v))
+on_head (Head.Mark m) k pre piece e h = subst (λ y. Wraps k (Tree.mark m) (pre ++ y)) (sym e.1) (h (Tree.mark m) (codes "p" ++ numeral m) (a_mark m e.0))
+on_head (Head.Prefix o) k pre piece e h = under_operator k o pre piece (sym e) h
+on_head (Head.Open c) k pre piece e h = open_bracket k c pre piece (λ o g. opened_by c o g ∙ sym e) h
 
-on_follow : (q : Quantifier) (x : Follow) (b : ℕ) (k : List Frame) (pre : List ℕ) → Followed q b x → Reached (letter q k) pre → Onward (go_on q x k) (pre ++ b ∷ [])
-unfolding go_on
-on_follow q (Follow.Prefix o) b k pre e h = subst (Reached (want (under o ∷ k))) (sym (append_assoc h.0 (letters q) (b ∷ [])) ∙ ap (λ y. y ++ b ∷ []) (sym h.1)) (under_operator k o h.0 (letters q ++ b ∷ []) (sym e) h.2)
-on_follow q Follow.Open b k pre e h = subst (Reached (want (left (Bracket.Quantified q) ∷ k))) (sym (append_assoc h.0 (letters q) (b ∷ [])) ∙ ap (λ y. y ++ b ∷ []) (sym h.1)) (open_bracket k (Bracket.Quantified q) h.0 (letters q ++ b ∷ []) (λ o g. opened_by (Bracket.Quantified q) o g ∙ ap (λ y. letters q ++ y) (sym e)) h.2)
-on_follow q Follow.Other b k pre e h = tt
+on_begin : (x : Option Start) (b : ℕ) (k : List Frame) (pre : List ℕ) → Begun b x → Reached (want k) pre → Onward (option_map (λ x. started x k) x) (pre ++ b ∷ [])
+on_begin (Some (Start.Piece x)) b k pre e h = on_head x k pre (b ∷ []) e h
+on_begin (Some Start.Mark) b k pre e h = λ m low. subst (λ y. Wraps k (Tree.mark m) y) (ap (λ y. pre ++ (y ++ numeral m)) (sym e) ∙ sym (append_assoc pre (b ∷ []) (numeral m))) (h (Tree.mark m) (codes "p" ++ numeral m) (a_mark m low))
+on_begin (Some (Start.Letter q)) b k pre e h = (pre, ap (λ y. pre ++ y) e, h)
+on_begin None b k pre e h = tt
 
-on_sign : (c : Bracket) (x : Option Operator) (b : ℕ) (s : Tree) (k : List Frame) (pre : List ℕ) → Signed c b x → Wraps (left c ∷ k) s pre → Onward (joined x s k) (pre ++ b ∷ [])
-unfolding joined
+on_follow : (q : Quantifier) (x : Option Head) (b : ℕ) (k : List Frame) (pre : List ℕ) → Followed q b x → Reached (letter q k) pre → Onward (option_map (λ h. headed h k) x) (pre ++ b ∷ [])
+on_follow q (Some x) b k pre e h = subst (Reached (headed x k)) (sym (append_assoc h.0 (letters q) (b ∷ [])) ∙ ap (λ y. y ++ b ∷ []) (sym h.1)) (on_head x k h.0 (letters q ++ b ∷ []) e h.2)
+on_follow q None b k pre e h = tt
+
+on_sign : (c : Bracket) (x : Option Operator) (b : ℕ) (s : Tree) (k : List Frame) (pre : List ℕ) → Signed c b x → Wraps (left c ∷ k) s pre → Onward (option_map (λ o. want (right o s ∷ k)) x) (pre ++ b ∷ [])
 on_sign c (Some o) b s k pre e h = λ q d sq n. subst (Wraps k (Tree.binary o s q)) (seam d n) (h 0 o e.0 q (d ++ replicate n 32) (spread n sq))
   where
     seam : (d : List ℕ) (n : ℕ) → pre ++ (between o ++ ((d ++ replicate n 32) ++ codes ")")) ≡ ((pre ++ b ∷ []) ++ d) ++ (replicate n 32 ++ codes ")")
@@ -164,6 +170,18 @@ on_cond : (t : Bool) (x y : Option State) (pre : List ℕ) → (t ≡ true → O
 on_cond true x y pre f g = f refl
 on_cond false x y pre f g = g refl
 
+-- a bracket after two rules
+abbrev Closed : ℕ → Option (Unit {0}) → Type 0
+Closed b (Some u) = (b ∷ []) ≡ codes ")"
+Closed b None = Unit {0}
+
+closed_of : (b : ℕ) → Closed b (closes b)
+closed_of b = cond_both (eqb b 41) _ _ (Closed b) (one b 41) λ _. tt
+
+on_close : (x : Option (Unit {0})) (s : Tree) (o : Operator) (r : Tree) (k : List Frame) (b : ℕ) (pre : List ℕ) → Closed b x → Wraps (right o r ∷ k) s pre → Onward (option_map (λ _. have (Tree.binary o r s) k) x) (pre ++ b ∷ [])
+on_close (Some u) s o r k b pre e h = subst (λ y. Wraps k (Tree.binary o r s) (pre ++ y)) (sym e) (h 0)
+on_close None s o r k b pre e h = tt
+
 a_space : (s : Tree) (k : List Frame) (b : ℕ) (pre : List ℕ) → eqb b 32 ≡ true → Wraps k s pre → Wraps k s (pre ++ b ∷ [])
 a_space s k b pre e h = subst (λ y. Wraps k s (pre ++ y)) (sym (one b 32 e)) (wraps_space k s pre h)
 
@@ -172,36 +190,45 @@ unfolding after
 on_after s [] b pre h = on_cond (eqb b 32) _ _ _ (λ e. a_space s [] b pre e h) (λ _. tt)
 on_after s (under o ∷ k) b pre h = on_after (Tree.unary o s) k b pre h
 on_after s (left c ∷ k) b pre h = on_cond (eqb b 32) _ _ _ (λ e. a_space s (left c ∷ k) b pre e h) (λ _. on_sign c (joining c b) b s k pre (signed_of c b) h)
-on_after s (right o r ∷ k) b pre h = on_cond (eqb b 32) _ _ _ (λ e. a_space s (right o r ∷ k) b pre e h) (λ _. on_cond (eqb b 41) _ _ _ (λ e. subst (λ y. Wraps k (Tree.binary o r s) (pre ++ y)) (sym (one b 41 e)) (h 0)) (λ _. tt))
+on_after s (right o r ∷ k) b pre h = on_cond (eqb b 32) _ _ _ (λ e. a_space s (right o r ∷ k) b pre e h) (λ _. on_close (closes b) s o r k b pre (closed_of b) h)
 
 -- one digit, or two
-low_digit : (b : ℕ) (k : List Frame) (pre : List ℕ) → 48 ≤ b → b ≤ 57 → Reached (digit_wanted k) pre → Wraps k (Tree.mark (b - 48)) (pre ++ b ∷ [])
-low_digit b k pre l g h = subst (λ y. Wraps k (Tree.mark (b - 48)) (pre ++ y)) same (h (b - 48) (omega arith))
-  where
-    same : numeral (b - 48) ≡ b ∷ []
-    same = let e : 48 + (b - 48) ≡ b = omega arith in rw (lt-ltb (b - 48) 10 (omega arith), e) refl
+abbrev Digit : ℕ → ℕ → Option ℕ → Type 0
+Digit most b (Some n) = (n ≤ most) × (b ≡ 48 + n)
+Digit most b None = Unit {0}
 
-one_digit : (b : ℕ) (k : List Frame) (pre : List ℕ) → b ≡ 49 → Reached (digit_wanted k) pre → Reached (after_one k) (pre ++ b ∷ [])
-one_digit b k pre e h = (
-  subst (λ y. Wraps k (Tree.mark 1) (pre ++ y ∷ [])) (sym e) (h 1 (omega arith)),
-  λ m l g. subst (Wraps k (Tree.mark m)) (same m l ∙ sym (append_assoc pre (b ∷ []) _)) (h m g),
-)
-  where
-    same : (m : ℕ) → 10 ≤ m → pre ++ numeral m ≡ pre ++ (b ∷ (38 + m) ∷ [])
-    same m l = rw (le-ltb m 10 l, e) refl
+digit_one : (most b : ℕ) → Digit most b (digit_of most b)
+digit_one most b =
+    cond_both (leb 48 b && leb b (48 + most)) _ _ (Digit most b)
+    (λ e. let h = and_parts (leb 48 b) (leb b (48 + most)) e in (omega (arith, leb-true 48 b h.0, leb-true b (48 + most) h.1), omega (arith, leb-true 48 b h.0)))
+    λ _. tt
 
-teen_digit : (b : ℕ) (k : List Frame) (pre : List ℕ) → 48 ≤ b → b ≤ 53 → Reached (after_one k) pre → Wraps k (Tree.mark (b - 38)) (pre ++ b ∷ [])
-teen_digit b k pre l g h =
-    let e : 38 + (b - 38) ≡ b = omega arith in
-    subst (λ y. Wraps k (Tree.mark (b - 38)) (pre ++ y ∷ [])) e (h.1 (b - 38) (omega arith) (omega arith))
+on_digit : (x : Option ℕ) (b : ℕ) (k : List Frame) (pre : List ℕ) → Digit 9 b x → Reached (digit_wanted k) pre → Onward (option_map (λ n. after_digit n k) x) (pre ++ b ∷ [])
+on_digit None b k pre e h = tt
+on_digit (Some n) b k pre e h = by (cases_eq n 1)
+  where
+    here : Wraps k (Tree.mark n) (pre ++ b ∷ [])
+    here = rw e.1 (rw (lt-ltb n 10 (omega (arith, e.0))) at (h n (omega (arith, e.0))))
+
+    teens : n ≡ 1 → (m : ℕ) → 10 ≤ m → m < 16 → Wraps k (Tree.mark m) ((pre ++ b ∷ []) ++ (38 + m) ∷ [])
+    teens z m l g = rw (append_assoc, e.1, z) (rw (le-ltb m 10 l) at (h m g))
+
+    by : (n ≡ 1) ⊎ (n ≡ 1 → ⊥) → Reached (after_digit n k) (pre ++ b ∷ [])
+    by (inl z) = rw z (rw z at here, teens z)
+    by (inr z) = rw (ne_eqb n 1 z) here
+
+on_second : (x : Option ℕ) (b : ℕ) (k : List Frame) (pre : List ℕ) → Digit 5 b x → Reached (after_one k) pre → Onward (second x k b) (pre ++ b ∷ [])
+unfolding second
+on_second None b k pre e h = on_after (Tree.mark 1) k b pre h.0
+on_second (Some n) b k pre e h = let z : 38 + (10 + n) ≡ b = omega (arith, e.1) in rw z at (h.1 (10 + n) (omega arith) (omega (arith, e.0)))
 
 -- one byte more
 pub advance : (σ : State) (b : ℕ) (pre : List ℕ) → Reached σ pre → Onward (step σ b) (pre ++ b ∷ [])
 unfolding step
 advance (want k) b pre h = on_cond (eqb b 32) _ _ _ (λ e s c sp. subst (Wraps k s) (ap (λ y. pre ++ (y ++ c)) (sym (one b 32 e)) ∙ sym (append_assoc pre (b ∷ []) c)) (h s (32 ∷ c) (space_before sp))) (λ _. on_begin (start_of b) b k pre (begun_of b) h)
 advance (have s k) b pre h = on_after s k b pre h
-advance (digit_wanted k) b pre h = on_cond (eqb b 49) _ _ _ (λ e. one_digit b k pre (eqb-true b 49 e) h) (λ _. on_cond (leb 48 b && leb b 57) _ _ _ (λ e. low_digit b k pre (leb-true 48 b (and_parts (leb 48 b) (leb b 57) e).0) (leb-true b 57 (and_parts (leb 48 b) (leb b 57) e).1) h) (λ _. tt))
-advance (after_one k) b pre h = on_cond (leb 48 b && leb b 53) _ _ _ (λ e. teen_digit b k pre (leb-true 48 b (and_parts (leb 48 b) (leb b 53) e).0) (leb-true b 53 (and_parts (leb 48 b) (leb b 53) e).1) h) (λ _. on_after (Tree.mark 1) k b pre h.0)
+advance (digit_wanted k) b pre h = on_digit (digit_of 9 b) b k pre (digit_one 9 b) h
+advance (after_one k) b pre h = on_second (digit_of 5 b) b k pre (digit_one 5 b) h
 advance (letter q k) b pre h = on_follow q (follow_of q b) b k pre (followed_of q b) h
 
 -- some rule begins with a text that leads to a state

@@ -1,5 +1,5 @@
 -- A rule as the list of its clauses, each of which refers to earlier ones by number.
-use Rattle.std.specs.Prelude.{◌≡◌, ℕ, zero, suc, ◌+◌, ◌-◌, ◌<◌, ◌≤◌, Bool, true, false, ◌&&◌, List, [], ◌∷◌, ◌++◌, length, nat_lt, slice_index_or}
+use Rattle.std.specs.Prelude.{ℕ, zero, suc, ◌+◌, ◌-◌, ◌<◌, false, List, [], ◌∷◌, ◌++◌, length, slice_index_or}
 use Rattle.rules.specs.Formulas.{Formula, constant, mark, next, pair}
 use Rattle.rules.specs.declared.syntax.Clause.{Clause}
 use Rattle.rules.specs.declared.syntax.Clause.TheVariants.{Constant, Mark, Next, Pair}
@@ -59,14 +59,3 @@ MarkBelow n (Constant b) = Unit {0}
 MarkBelow n (Mark p negated) = p < n
 MarkBelow n (Next k r) = Unit {0}
 MarkBelow n (Pair o r q) = Unit {0}
-
--- the clause may stand at place n of a rule, as a test: its parts are below n, its mark is below 16
-abbrev pub fits_at : ℕ → Clause → Bool
-fits_at n (Constant b) = true
-fits_at n (Mark p negated) = nat_lt p 16
-fits_at n (Next k r) = nat_lt r n
-fits_at n (Pair o r q) = nat_lt r n && nat_lt q n
-
--- the first n of 64 places hold a rule: it has 1 to 64 clauses, each of which fits its place
-abbrev pub Listed : List Clause → ℕ → Type 0
-Listed cs n = (length cs ≡ 64) × (1 ≤ n) × (n ≤ 64) × ((i : ℕ) → i < n → fits_at i (slice_index_or cs i (Constant false)) ≡ true)

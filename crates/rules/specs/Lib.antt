@@ -1,5 +1,6 @@
 pub mod Formulas
 pub mod Clauses
+pub mod Props
 pub mod Trees
 pub mod Grammar
 pub mod Rules

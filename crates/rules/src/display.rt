@@ -6,29 +6,28 @@ ghost use Rattle.rules.specs.Texts.{clause_text};
 use crate::syntax::{Clause, Operator, Quantifier};
 use std::fmt;
 
-impl Quantifier {
-    fn letter(self) -> &'static str
-        ensures { result.now ≡ letter self }
-    {
-        match self {
+// `A` or `E`.
+impl fmt::Display for Quantifier {
+    ghost output = { λ quantifier. some_text (letter quantifier) };
+
+    fn fmt<W: fmt::Write>(&self, f: &mut fmt::Formatter<W>) -> fmt::Result {
+        f.write_str(match self {
             Quantifier::A => "A",
             Quantifier::E => "E",
-        }
+        })
     }
 }
 
+// An operator is written in two places, so it has no one text to show.
 impl Operator {
     // The bracket before two rules.
     fn opening(self) -> &'static str
         ensures { result.now ≡ opening self }
     {
         match self {
-            Operator::And => "(",
-            Operator::Or => "(",
-            Operator::AU => "A(",
-            Operator::AV => "A(",
-            Operator::EU => "E(",
-            Operator::EV => "E(",
+            Operator::And | Operator::Or => "(",
+            Operator::AU | Operator::AV => "A(",
+            Operator::EU | Operator::EV => "E(",
         }
     }
 
@@ -39,16 +38,14 @@ impl Operator {
         match self {
             Operator::And => "&",
             Operator::Or => "|",
-            Operator::AU => "U",
-            Operator::AV => "V",
-            Operator::EU => "U",
-            Operator::EV => "V",
+            Operator::AU | Operator::EU => "U",
+            Operator::AV | Operator::EV => "V",
         }
     }
 }
 
 impl fmt::Display for Clause {
-    ghost output = { λ c. some_text (clause_text c) };
+    ghost output = { λ clause. some_text (clause_text clause) };
 
     fn fmt<W: fmt::Write>(&self, f: &mut fmt::Formatter<W>) -> fmt::Result {
         match *self {
@@ -57,10 +54,7 @@ impl fmt::Display for Clause {
                 let sign = if negated { "!" } else { "" };
                 write!(f, "{sign}p{mark}")
             }
-            Clause::Next { quantifier, part } => {
-                let letter = quantifier.letter();
-                write!(f, "{letter}X #{part}")
-            }
+            Clause::Next { quantifier, part } => write!(f, "{quantifier}X #{part}"),
             Clause::Pair {
                 operator,
                 left,

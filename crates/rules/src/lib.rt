@@ -6,6 +6,7 @@ mod clause_list;
 pub mod display;
 mod negation;
 mod pieces;
+mod prefixes;
 mod reader;
 pub mod reading;
 pub mod rule;

@@ -1,30 +1,71 @@
 // How a negation goes inward.
-ghost use Rattle.std.specs.Prelude.{◌≡◌};
+ghost use Rattle.std.specs.Prelude.{◌≡◌, true, false, cond, not, refl};
+ghost use Rattle.rules.specs.declared.syntax.Quantifier.TheVariants.{A, E};
+ghost use Rattle.rules.specs.declared.syntax.Operator.TheVariants.{And, Or, AU, AV, EU, EV};
 ghost use Rattle.rules.specs.Formulas.{other_quantifier, other_operator};
 ghost use Rattle.rules.specs.Trees.{until, release};
-ghost use Rattle.rules.specs.reader.Filling.{turn_quantifier, turn_operator, turn_constant, flip};
 
-use crate::pieces::Prefix;
 use crate::syntax::{Operator, Quantifier};
 
-impl Quantifier {
-    // A for E, and E for A.
-    fn other(self) -> Quantifier
-        ensures { result ≡ other_quantifier self }
+// What a negation turns into another of its kind, and a second one back.
+pub(crate) trait Dual: Copy {
+    ghost other: { Self → Self };
+
+    fn dual(self) -> Self
+        ensures { result ≡ other self };
+
+    ghost turns_back: { (x : Self) → other (other x) ≡ x };
+
+    // The same, where it stands under a negation, and else the value as it is.
+    final fn under(self, negated: bool) -> Self
+        ensures { result ≡ cond negated (other self) self }
     {
+        if negated { self.dual() } else { self }
+    }
+}
+
+impl Dual for bool {
+    ghost other = { not };
+
+    ghost turns_back = { elim [ true ↦ refl | false ↦ refl ] };
+
+    fn dual(self) -> bool {
+        !self
+    }
+}
+
+// A for E, and E for A.
+impl Dual for Quantifier {
+    ghost other = { other_quantifier };
+
+    ghost turns_back = { elim [ A ↦ refl | E ↦ refl ] };
+
+    fn dual(self) -> Quantifier {
         match self {
             Quantifier::A => Quantifier::E,
             Quantifier::E => Quantifier::A,
         }
     }
+}
 
-    // The quantifier, under a negation or not.
-    pub(crate) fn under(self, negated: bool) -> Quantifier
-        ensures { result ≡ turn_quantifier negated self }
-    {
-        if negated { self.other() } else { self }
+impl Dual for Operator {
+    ghost other = { other_operator };
+
+    ghost turns_back = { elim [ And ↦ refl | Or ↦ refl | AU ↦ refl | AV ↦ refl | EU ↦ refl | EV ↦ refl ] };
+
+    fn dual(self) -> Operator {
+        match self {
+            Operator::And => Operator::Or,
+            Operator::Or => Operator::And,
+            Operator::AU => Operator::EV,
+            Operator::EV => Operator::AU,
+            Operator::AV => Operator::EU,
+            Operator::EU => Operator::AV,
+        }
     }
+}
 
+impl Quantifier {
     // U with this quantifier.
     pub(crate) fn until(self) -> Operator
         ensures { result ≡ until self }
@@ -35,55 +76,10 @@ impl Quantifier {
         }
     }
 
-    // V with this quantifier.
+    // V with this quantifier: what a negation makes of U with the other one.
     pub(crate) fn release(self) -> Operator
         ensures { result ≡ release self }
     {
-        match self {
-            Quantifier::A => Operator::AV,
-            Quantifier::E => Operator::EV,
-        }
-    }
-}
-
-impl Operator {
-    // What the operator becomes under a negation.
-    fn other(self) -> Operator
-        ensures { result ≡ other_operator self }
-    {
-        match self {
-            Operator::And => Operator::Or,
-            Operator::Or => Operator::And,
-            Operator::AU => Operator::EV,
-            Operator::EV => Operator::AU,
-            Operator::AV => Operator::EU,
-            Operator::EU => Operator::AV,
-        }
-    }
-
-    // The operator, under a negation or not.
-    pub(crate) fn under(self, negated: bool) -> Operator
-        ensures { result ≡ turn_operator negated self }
-    {
-        if negated { self.other() } else { self }
-    }
-}
-
-// A constant, under a negation or not.
-pub fn constant_under(value: bool, negated: bool) -> bool
-    ensures { result ≡ turn_constant negated value }
-{
-    if negated { !value } else { value }
-}
-
-impl Prefix {
-    // Whether the rule after the prefix stands under a negation.
-    pub(crate) fn negates(self, negated: bool) -> bool
-        ensures { result ≡ flip self negated }
-    {
-        match self {
-            Prefix::Not => !negated,
-            _ => negated,
-        }
+        self.dual().until().dual()
     }
 }

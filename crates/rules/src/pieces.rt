@@ -1,7 +1,5 @@
-// The pieces of a rule's text, and what the reader finds at a place.
-ghost use Rattle.std.specs.Prelude.{◌≡◌};
-
-use crate::syntax::{Operator, Quantifier};
+// The pieces of a rule's text, and what is answered where none goes on.
+use crate::syntax::Quantifier;
 
 // What may stand before a rule: `!`, `AX`, `AG`, `AF` and those with `E`.
 #[derive(Clone, Copy)]
@@ -19,25 +17,6 @@ pub enum Bracket {
     Quantified(Quantifier),
 }
 
-// What a byte begins where a rule is wanted.
-#[derive(Clone, Copy)]
-pub enum Start {
-    Constant(bool),
-    Mark,
-    Not,
-    Letter(Quantifier),
-    Open,
-    Other,
-}
-
-// What a byte makes of the letter `A` or `E` before it.
-#[derive(Clone, Copy)]
-pub enum Follow {
-    Prefix(Prefix),
-    Open,
-    Other,
-}
-
 // The first piece of a rule.
 #[derive(Clone, Copy)]
 pub enum Head {
@@ -47,32 +26,17 @@ pub enum Head {
     Open(Bracket),
 }
 
-// The first piece of a rule, and the place after it.
+// What a byte begins where a rule is wanted: it is a piece, or the `p` of a mark, or the letter `A` or `E`
+// of a piece.
 #[derive(Clone, Copy)]
-pub struct Found {
-    pub head: Head,
-    pub end: usize,
+pub enum Start {
+    Piece(Head),
+    Mark,
+    Letter(Quantifier),
 }
 
-// The operator between two rules, and the place after it.
+// No rule goes on where so many bytes of the text are left.
 #[derive(Clone, Copy)]
-pub struct Joint {
-    pub operator: Operator,
-    pub end: usize,
-}
-
-// A rule that was read: the place after it, and its nesting.
-#[derive(Clone, Copy)]
-pub struct Part {
-    pub end: usize,
-    pub nesting: usize,
-}
-
-impl Part {
-    pub fn new(end: usize, nesting: usize) -> Part
-        ensures end { result.end ≡ end }
-        ensures nesting { result.nesting ≡ nesting }
-    {
-        Part { end, nesting }
-    }
+pub struct Stuck {
+    pub left: usize,
 }

@@ -1,8 +1,8 @@
 // Reading a rule's text.
 ghost use Rattle.rules.specs.Reading.{Answers};
 
-use crate::clause_list::{ClauseList, MAX_CLAUSES};
-use crate::reader::read_whole;
+use crate::clause_list::MAX_CLAUSES;
+use crate::reader::Reader;
 use crate::rule::Rule;
 use systems::{Fault, Refusal};
 
@@ -14,24 +14,23 @@ const MAX_NESTING: usize = 32;
 pub fn read(text: &[u8]) -> Result<Rule, Fault>
     ensures { Answers text.now result }
 {
-    if text.len() < 1 || text.len() > MAX_LENGTH {
-        return Err(Fault::of(Refusal::RuleLength));
+    if text.is_empty() || text.len() > MAX_LENGTH {
+        return Err(Refusal::RuleLength.into());
     }
-    let mut list = ClauseList::empty();
-    match read_whole(text, &mut list) {
-        Err(place) => Err(Fault::at(Refusal::NotARule, place)),
-        Ok(nesting) => {
-            if nesting > MAX_NESTING {
-                return Err(Fault::of(Refusal::NestingDepth));
-            }
-            if list.count > MAX_CLAUSES {
-                return Err(Fault::of(Refusal::TooManyClauses));
-            }
-            Ok(Rule {
-                clauses: list.clauses,
-                count: list.count,
-                nesting,
-            })
-        }
+    let mut reader = Reader::new(text);
+    let nesting = reader.whole().map_err(|stuck| Fault::at(
+        Refusal::NotARule,
+        text.len() - stuck.left,
+    ))?;
+    if nesting > MAX_NESTING {
+        return Err(Refusal::NestingDepth.into());
     }
+    if reader.list.count > MAX_CLAUSES {
+        return Err(Refusal::TooManyClauses.into());
+    }
+    Ok(Rule {
+        clauses: reader.list.clauses,
+        count: reader.list.count,
+        nesting,
+    })
 }

@@ -1,134 +1,137 @@
-// The pieces at a place of a rule's text. Where none goes on, the answer is that place.
-ghost use Rattle.std.specs.Prelude.{◌≡◌, ◌<◌, ◌≤◌, length, IfOk, slice_index};
-ghost use Rattle.rules.specs.reader.Machine.{want, digit_wanted, after_one, letter};
-ghost use Rattle.rules.specs.reader.Scans.{Skips, Leads, headed, Heads, Joins, Closes};
+// The pieces at the start of what is left of a rule's text.
+ghost use Rattle.std.specs.Prelude.{◌≡◌, ◌==◌, ◌≤◌, length, drop};
+ghost use Rattle.rules.specs.reader.Machine.{want, digit_wanted, after_one, letter, headed};
+ghost use Rattle.rules.specs.reader.Scans.{spaces, Takes, Goes, Reads, marked, between_rules, joined_by, in_bracket, closed};
 
-use crate::bytes::{follow, joint, start};
-use crate::pieces::{Bracket, Follow, Found, Head, Joint, Prefix, Start};
-use crate::syntax::Quantifier;
+use crate::bytes::{close, digit, follow, joint, start};
+use crate::pieces::{Bracket, Head, Start, Stuck};
+use crate::syntax::{Operator, Quantifier};
+use std::marker::Model;
 
-// The byte at a place, or 0, which no rule has, at the end.
-fn byte_at(text: &[u8], at: usize) -> u8
-    ensures { result ≡ slice_index text.now at }
-{
-    if at < text.len() { text[at] } else { 0 }
+// The bytes of a text that are still to be read.
+#[derive(Drop)]
+pub struct Rest<'a> {
+    bytes: &'a [u8],
 }
 
-// The first place from here on that has no space.
-pub fn skip_spaces(text: &[u8], at: usize) -> usize
-    requires { at ≤ length text.now }
-    ensures { Skips text.now at result }
-{
-    let mut end = at;
-    while end < text.len() && text[end] == b' ' {
-        end += 1;
-    }
-    end
+impl<'a> Model for Rest<'a> {
+    ghost use Rattle.std.specs.Prelude.{ℕ, List};
+
+    ghost Value = { List ℕ };
+
+    ghost view = { λ rest. rest.bytes.now };
 }
 
-// The rest of a mark that begins with p1.
-fn after_p1(text: &[u8], at: usize) -> Found
-    requires { at ≤ length text.now }
-    ensures { Leads text.now at result.end after_one (headed result.head) }
+// How many spaces a text begins with.
+fn count_spaces(text: &[u8]) -> usize
+    ensures is { result ≡ spaces text.now }
+    ensures inside { result ≤ length text.now }
 {
-    let byte = byte_at(text, at);
-    if byte < b'0' || byte > b'5' {
-        return Found {
-            head: Head::Mark(1),
-            end: at,
-        };
-    }
-    Found {
-        head: Head::Mark(byte as usize - 38),
-        end: at + 1,
-    }
+    text.iter().take_while(|byte| **byte == b' ').count()
 }
 
-// The number of a mark, after its p.
-fn mark_number(text: &[u8], at: usize) -> Result<Found, usize>
-    requires { at ≤ length text.now }
-    ensures { Heads text.now at digit_wanted result }
-{
-    let byte = byte_at(text, at);
-    if byte == b'1' {
-        return Ok(after_p1(text, at + 1));
+impl<'a> Rest<'a> {
+    pub(crate) fn new(bytes: &'a [u8]) -> Rest<'a>
+        ensures { result ≡ bytes.now }
+    {
+        Rest { bytes }
     }
-    if byte < b'0' || byte > b'9' {
-        return Err(at);
-    }
-    Ok(Found {
-        head: Head::Mark(byte as usize - 48),
-        end: at + 1,
-    })
-}
 
-// What stands after A or E.
-fn after_letter(text: &[u8], at: usize, quantifier: Quantifier) -> Result<Found, usize>
-    requires { at ≤ length text.now }
-    ensures { Heads text.now at (letter quantifier) result }
-{
-    match follow(quantifier, byte_at(text, at)) {
-        Follow::Prefix(prefix) => Ok(Found {
-            head: Head::Prefix(prefix),
-            end: at + 1,
-        }),
-        Follow::Open => Ok(Found {
-            head: Head::Open(Bracket::Quantified(quantifier)),
-            end: at + 1,
-        }),
-        Follow::Other => Err(at),
+    pub(crate) fn is_empty(&self) -> bool
+        ensures { result ≡ (length self.now == 0) }
+    {
+        self.bytes.is_empty()
     }
-}
 
-// The first piece of a rule.
-pub fn first_piece(text: &[u8], at: usize) -> Result<Found, usize>
-    requires { at ≤ length text.now }
-    ensures heads { Heads text.now at want result }
-    ensures further { IfOk result (λ f. at < f.end) }
-{
-    let first = skip_spaces(text, at);
-    match start(byte_at(text, first)) {
-        Start::Constant(value) => Ok(Found {
-            head: Head::Constant(value),
-            end: first + 1,
-        }),
-        Start::Mark => mark_number(text, first + 1),
-        Start::Not => Ok(Found {
-            head: Head::Prefix(Prefix::Not),
-            end: first + 1,
-        }),
-        Start::Letter(quantifier) => after_letter(text, first + 1, quantifier),
-        Start::Open => Ok(Found {
-            head: Head::Open(Bracket::Plain),
-            end: first + 1,
-        }),
-        Start::Other => Err(first),
+    // What is told where no rule goes on here.
+    pub(crate) fn stuck(&self) -> Stuck
+        ensures { result.left ≡ length self.now }
+    {
+        Stuck {
+            left: self.bytes.len(),
+        }
     }
-}
 
-// The operator between two rules.
-pub fn operator_between(text: &[u8], at: usize, bracket: Bracket) -> Result<Joint, usize>
-    requires { at ≤ length text.now }
-    ensures { Joins text.now at bracket result }
-{
-    let first = skip_spaces(text, at);
-    match joint(bracket, byte_at(text, first)) {
-        Some(operator) => Ok(Joint {
-            operator,
-            end: first + 1,
-        }),
-        None => Err(first),
+    // What is left after the spaces here.
+    pub(crate) fn without_spaces(&self) -> Rest<'a>
+        ensures { result ≡ drop (spaces self.now) self.now }
+    {
+        Rest::new(&self.bytes[count_spaces(self.bytes)..])
     }
-}
 
-// The end of a bracket.
-pub fn closing(text: &[u8], at: usize) -> Result<usize, usize>
-    requires { at ≤ length text.now }
-    ensures { Closes text.now at result }
-{
-    let first = skip_spaces(text, at);
-    if byte_at(text, first) == b')' {
-        return Ok(first + 1);
+    // Takes the next byte, if it means something here.
+    fn take<T, F: Fn(u8) -> Option<T>>(&mut self, meaning: F) -> Result<T, Stuck>
+        requires { F.IsAlwaysCallable meaning }
+        ensures { Takes F.Fn meaning self.old self.new result }
+    {
+        let stuck = self.stuck();
+        let (first, others) = self.bytes.split_first().ok_or(stuck)?;
+        let found = meaning(*first).ok_or(stuck)?;
+        self.bytes = others;
+        Ok(found)
     }
-    Err(first)
+
+    // Skips spaces, and takes the next byte, if it means something here.
+    fn take_after_spaces<T, F: Fn(u8) -> Option<T>>(&mut self, meaning: F) -> Result<T, Stuck>
+        requires { F.IsAlwaysCallable meaning }
+        ensures { Takes F.Fn meaning (drop (spaces self.old) self.old) self.new result }
+    {
+        *self = self.without_spaces();
+        self.take(meaning)
+    }
+
+    // The number of a mark, after its p and a 1: the marks are 0 to 15.
+    fn mark_after_one(&mut self) -> usize
+        ensures { Goes after_one marked self.old self.new result }
+    {
+        self.take(digit::<5>).map_or(1, |second| 10 + second)
+    }
+
+    // The number of a mark, after its p.
+    #[tactic(auto, using(crate::proofs::Scans::digit_read, crate::proofs::Scans::digit_alone, crate::proofs::Scans::then_goes, crate::proofs::Scans::stopped))]
+    fn mark(&mut self) -> Result<usize, Stuck>
+        ensures { Reads digit_wanted marked self.old self.new result }
+    {
+        let number = self.take(digit::<9>)?;
+        if number == 1 {
+            Ok(self.mark_after_one())
+        } else {
+            Ok(number)
+        }
+    }
+
+    // What a letter begins.
+    fn after_letter(&mut self, quantifier: Quantifier) -> Result<Head, Stuck>
+        ensures { Reads (letter quantifier) headed self.old self.new result }
+    {
+        self.take(|byte| follow(quantifier, byte))
+    }
+
+    // The first piece of a rule.
+    #[tactic(auto, using(crate::proofs::Scans::began, crate::proofs::Scans::then_reads, crate::proofs::Scans::stopped))]
+    pub(crate) fn first_piece(&mut self) -> Result<Head, Stuck>
+        ensures { Reads want headed self.old self.new result }
+    {
+        match self.take_after_spaces(start)? {
+            Start::Piece(head) => Ok(head),
+            Start::Mark => Ok(Head::Mark(self.mark()?)),
+            Start::Letter(quantifier) => self.after_letter(quantifier),
+        }
+    }
+
+    // The operator between two rules.
+    #[tactic(auto, using(crate::proofs::Scans::operator_read))]
+    pub(crate) fn operator(&mut self, bracket: Bracket) -> Result<Operator, Stuck>
+        ensures { Reads (between_rules bracket) joined_by self.old self.new result }
+    {
+        self.take_after_spaces(|byte| joint(bracket, byte))
+    }
+
+    // The end of a bracket.
+    #[tactic(auto, using(crate::proofs::Scans::closing_read))]
+    pub(crate) fn closing(&mut self) -> Result<(), Stuck>
+        ensures { Reads in_bracket closed self.old self.new result }
+    {
+        self.take_after_spaces(close)
+    }
 }

@@ -1,73 +1,60 @@
 // What is proved of rules and their texts beside what the calls promise. Each function stands for the
-// theorem in its contract; the number that it returns means nothing.
+// theorem in its contract, and does nothing.
 ghost use Rattle.rules.specs.Theorems.{SpelledOnce, AnsweredExactly, CutAlike, EveryRule, ListedWhole, ReadFormula, MarksListed, MarksOfClauses, Places, MovedInward};
 
 // A text spells at most one rule.
-pub fn spelled_once() -> u8
+#[tactic(auto, using(crate::proofs::Exact::spelled_once))]
+pub fn spelled_once()
     ensures { SpelledOnce }
-{
-    0
-}
+{}
 
 // Each answer of `read` is given exactly where its conditions hold.
-pub fn answered_exactly() -> u8
+#[tactic(auto, using(crate::proofs::Exact::answered_exactly))]
+pub fn answered_exactly()
     ensures { AnsweredExactly }
-{
-    0
-}
+{}
 
 // A line is read as its first 513 bytes are.
-pub fn cut_alike() -> u8
+#[tactic(auto, using(crate::proofs::Exact::cut_alike))]
+pub fn cut_alike()
     ensures { CutAlike }
-{
-    0
-}
+{}
 
 // In no rule does a clause use itself or a later one.
-pub fn every_rule() -> u8
+pub fn every_rule()
     ensures { EveryRule }
-{
-    0
-}
+{}
 
 // The clauses of a formula stand for it, and the last is the whole.
-pub fn listed_whole() -> u8
+#[tactic(auto, using(crate::proofs::Listing::listed_whole))]
+pub fn listed_whole()
     ensures { ListedWhole }
-{
-    0
-}
+{}
 
 // A rule that was read is the formula of the tree that its text spells.
-pub fn read_formula() -> u8
+pub fn read_formula()
     ensures { ReadFormula }
-{
-    0
-}
+{}
 
 // The marks of a formula are those of its clauses.
-pub fn marks_listed() -> u8
+#[tactic(auto, using(crate::proofs::Listing::marks_listed))]
+pub fn marks_listed()
     ensures { MarksListed }
-{
-    0
-}
+{}
 
 // The marks of every clause are among those of the list.
-pub fn marks_of_clauses() -> u8
+pub fn marks_of_clauses()
     ensures { MarksOfClauses }
-{
-    0
-}
+{}
 
 // Three texts are refused at the first place where no rule goes on.
-pub fn worked_places() -> u8
+#[tactic(auto, using(crate::proofs::Worked::places))]
+pub fn worked_places()
     ensures { Places }
-{
-    0
-}
+{}
 
 // `!A(p0 U p1)` reads as `E(!p0 V !p1)`.
-pub fn worked_negation() -> u8
+#[tactic(auto, using(crate::proofs::Worked::moved_inward))]
+pub fn worked_negation()
     ensures { MovedInward }
-{
-    0
-}
+{}

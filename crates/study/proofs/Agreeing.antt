@@ -2,7 +2,6 @@
 use Rattle.std.proofs.Common.{◌≡◌, ℕ, ◌-◌, ◌*◌, ◌<◌, ◌≤◌, false, List, [], ◌∷◌, length, take, sym, ap, ◌∙◌, subst, inl, inr, arith, length-take-le, get_or-take}
 use Rattle.std.specs.List.{AllByRecursion}
 use Rattle.std.proofs.lemmas.Nat.{mul-add-lt}
-use Rattle.std.proofs.ByRecursion.{All-get_or, All-weaker}
 use Rattle.systems.specs.declared.kinds.Colour.{Colour}
 use Rattle.systems.specs.declared.kinds.Colour.TheVariants.{Undecided, F, T}
 use Rattle.systems.specs.Model.{Model, Possibly, Starts, Agree}
@@ -24,19 +23,11 @@ use Rattle.colours.specs.Colours.{colouring, HasColour, HasVerdict}
 use Rattle.colours.specs.Values.{colour_of, verdict_of}
 use Rattle.colours.specs.Boards.{place, positions, Coloured}
 use Rattle.colours.specs.Chains.{clause_at, Unsurely, Looks, Shown, Awaited, colours, Open, Follows, EndsInStep, GoesOn, Ends, Chain, LowestOpenStart, Cause}
+use Rattle.colours.proofs.Lists.{all_at, last_of, all_weaker}
 use Rattle.colours.proofs.Computed.{one_colour_computed}
 use Rattle.colours.proofs.Verdicts.{one_verdict}
-use Rattle.colours.proofs.Agreement.{agreeing_models_colour_alike}
+use Rattle.colours.proofs.Agreement.{agree_back, agreeing_models_colour_alike}
 use Rattle.colours.proofs.Chaining.{undecided_verdict_has_a_cause}
-
-pub agree_back : (M L : Model) → Agree M L → Agree L M
-agree_back M L a = record {
-  states = sym a.states;
-  marks = sym a.marks;
-  step = λ s t b c. sym (a.step s t (rw a.states b) (rw a.states c));
-  mark = λ s p b c. sym (a.mark s p (rw a.states b) (rw a.marks c));
-  start = λ s b. sym (a.start s (rw a.states b));
-}
 
 pub positions_agree : (M L : Model) (cs : List Clause) → Agree M L → positions M cs ≡ positions L cs
 positions_agree M L cs a = ap (λ n. n * length cs) a.states
@@ -57,10 +48,6 @@ coloured_front M cs b h =
       },
     )
 
-last_of : (P : Position → Type 0) (p : Position) (ps : List Position) → AllByRecursion P (p ∷ ps) → P (last p ps)
-last_of P p [] a = a.0
-last_of P p (q ∷ qs) a = last_of P q qs a.1
-
 -- from L over to M
 module _ (M L : Model) (a : Agree M L) where
   within : (s : ℕ) → s < L.states → s < M.states
@@ -77,7 +64,7 @@ module _ (M L : Model) (a : Agree M L) where
 
 module _ (M L : Model) (cs : List Clause) (a : Agree M L) (founded : WellFounded cs) (known : AllByRecursion (MarkBelow M.marks) cs) where
   known_at : (i : ℕ) → i < length cs → MarkBelow M.marks (clause_at cs i)
-  known_at i b = All-get_or (MarkBelow M.marks) cs i (Constant false) b known
+  known_at i b = all_at (MarkBelow M.marks) cs i (Constant false) b known
 
   alike : (i s : ℕ) → i < length cs → s < M.states → colour_of M (formula cs i) s ≡ colour_of L (formula cs i) s
   alike i s k b = (agreeing_models_colour_alike M L a (formula cs i) (marks_of_clauses M.marks cs founded known i k)).0 s b
@@ -168,7 +155,7 @@ module _ (M L : Model) (cs : List Clause) (a : Agree M L) (founded : WellFounded
   chained : (p : Position) (ps : List Position) (reason : Reason) → Chain L cs p ps reason → Chain M cs p ps reason
   chained p ps reason c = record {
     linked = linked p ps c.undecided c.linked;
-    undecided = All-weaker (Open L cs) (Open M cs) opened (p ∷ ps) c.undecided;
+    undecided = all_weaker (Open L cs) (Open M cs) opened (p ∷ ps) c.undecided;
     different = c.different;
     ended = ended (last p ps) reason (last_of (Open L cs) p ps c.undecided) c.ended;
   }

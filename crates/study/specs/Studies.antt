@@ -1,5 +1,6 @@
 -- The ledger of a study, and what its calls answer as replies.
-use Rattle.std.specs.Prelude.{◌≡◌, ℕ, ◌≤◌, Bool, true, cond, ◌&&◌, ◌⊎◌, List, [], ◌∷◌, map, length, take, Some, None, Ok, Err, Option, Result, ◌==◌, nat_lt, slice_index}
+use Rattle.std.specs.Prelude.{◌≡◌, ℕ, ◌≤◌, Bool, true, cond, ◌⊎◌, List, [], ◌∷◌, map, length, take, Some, None, Ok, Err, Option, Result, ◌==◌, nat_lt, slice_index}
+use Rattle.std.specs.List.{list_all}
 use Rattle.systems.specs.declared.kinds.Colour.{Colour}
 use Rattle.systems.specs.declared.refusals.Refusal.{Refusal}
 use Rattle.systems.specs.declared.refusals.Refusal.TheVariants.{WorkspaceTooSmall, VerdictDecided}
@@ -26,13 +27,9 @@ is_known n (Mark p negated) = nat_lt p n
 is_known n (Next k r) = true
 is_known n (Pair o r q) = true
 
-abbrev pub all_known : ℕ → List Clause → Bool
-all_known n [] = true
-all_known n (c ∷ cs) = is_known n c && all_known n cs
-
 -- the clauses of a rule over a system with n marks: a rule with a mark that does not exist counts as `1`
 abbrev pub clauses_for : ℕ → Rule → List Clause
-clauses_for n r = cond (all_known n (clause_list r)) (clause_list r) (Constant true ∷ [])
+clauses_for n r = cond (list_all (is_known n) (clause_list r)) (clause_list r) (Constant true ∷ [])
 
 -- the system of a study
 abbrev pub system_of : {S : Type 0} → Study S → S

@@ -4,6 +4,7 @@ use rules::Rule;
 
 mod asking;
 mod changing;
+mod written;
 
 // A system, the groups of its states, and a rule. A rule with a mark that the system does not have counts
 // as `1`: no call makes such a study, but the type cannot say so.

@@ -20,33 +20,27 @@ fn three_states() -> Result<Table, Refusal> {
     Table::from_parts(3, 1, steps, values, starts)
 }
 
-// The kind of a reason (1 a mark, 2 a step) and its two numbers.
-fn told(reason: Reason) -> (u8, usize, usize) {
-    match reason {
-        Reason::UnknownMark { group, mark } => (1, group, mark),
-        Reason::UnsureStep { group, target } => (2, group, target),
+// What a study answers in one turn: the verdict with the counts of T, F and undecided positions, and, where it is
+// undecided, the reason, the length of its chain, and what the split by it answers.
+#[derive(Clone, Copy, PartialEq, Debug)]
+struct Turn {
+    judged: (Colour, usize, usize, usize),
+    asked: Option<(Reason, usize, Result<(), Refusal>)>,
+}
+
+// Splits by a slip; one that comes back is filed.
+fn split(study: &mut Study<Table>, slip: Slip) -> Result<(), Refusal> {
+    let Err((refusal, slip)) = study.split(slip) else {
+        return Ok(());
+    };
+    let mut open: [Option<Reason>; 1] = [None; 1];
+    match file(slip, &mut open) {
+        Ok(()) => Err(refusal),
+        Err((_, _slip)) => unreachable!(),
     }
 }
 
-// Splits by a slip: 0, or the number of the refusal, and then the slip is filed.
-fn split(study: &mut Study<Table>, slip: Slip) -> u8 {
-    match study.split(slip) {
-        Ok(()) => 0,
-        Err((refusal, slip)) => {
-            let mut open: [Option<Reason>; 1] = [None; 1];
-            match file(slip, &mut open) {
-                Ok(()) => refusal.number(),
-                Err((_, _slip)) => unreachable(),
-            }
-        }
-    }
-}
-
-// One turn: the verdict, the counts of T, F and undecided positions, and, where it is undecided, the slip, the
-// length of its chain, and what the split by it answers.
-fn turn(
-    study: &mut Study<Table>,
-) -> Result<((u8, usize, usize, usize), (u8, usize, usize), usize, u8), Refusal> {
+fn take_turn(study: &mut Study<Table>) -> Result<Turn, Refusal> {
     let mut board = [7u8; 16];
     let mut slots = [0usize; 16];
     let mut queue = Ring::new(&mut slots);
@@ -60,14 +54,17 @@ fn turn(
     }; 16];
     let mut links = Ring::new(&mut waiting);
     let mut chain = [None; 16];
-    let (verdict, t, f, undecided) = study.judge(&mut board, &mut queue)?;
-    let counts = (verdict.number(), t, f, undecided);
-    if verdict != Colour::Undecided {
-        return Ok((counts, (0, 0, 0), 0, 0));
+    let judged = study.judge(&mut board, &mut queue)?;
+    if judged.0 != Colour::Undecided {
+        return Ok(Turn {
+            judged,
+            asked: None,
+        });
     }
     let (slip, length) = study.cause(&mut board, &mut queue, &mut links, &mut chain)?;
-    let reason = told(slip.reason());
-    Ok((counts, reason, length, split(study, slip)))
+    let reason = slip.reason();
+    let asked = Some((reason, length, split(study, slip)));
+    Ok(Turn { judged, asked })
 }
 
 #[test]
@@ -75,20 +72,29 @@ fn splits_until_decided(rt: HostRuntime) -> Result<(), Fail> {
     let mut study = Study::new(three_states()?);
     study.set_rule(read(b"AFp0")?)?;
     // one group: its mark is unknown
-    assert_eq!(rt; turn(&mut study)?, ((0, 1, 0, 2), (1, 0, 0), 2, 0));
+    let mark = Reason::UnknownMark { group: 0, mark: 0 };
+    let first = Turn {
+        judged: (Colour::Undecided, 1, 0, 2),
+        asked: Some((mark, 2, Ok(()))),
+    };
+    assert_eq!(rt; take_turn(&mut study)?, first);
     // groups 0 0 1: the step from 0 to 0 is unsure
-    assert_eq!(rt; turn(&mut study)?, ((0, 4, 1, 1), (2, 0, 0), 1, 0));
+    let step = Reason::UnsureStep {
+        group: 0,
+        target: 0,
+    };
+    let second = Turn {
+        judged: (Colour::Undecided, 4, 1, 1),
+        asked: Some((step, 1, Ok(()))),
+    };
+    assert_eq!(rt; take_turn(&mut study)?, second);
     // groups 0 2 1
-    assert_eq!(rt; turn(&mut study)?, ((2, 7, 2, 0), (0, 0, 0), 0, 0));
+    let third = Turn {
+        judged: (Colour::T, 7, 2, 0),
+        asked: None,
+    };
+    assert_eq!(rt; take_turn(&mut study)?, third);
     Ok(())
-}
-
-// The number of a refusal, or 0.
-fn number<A: Drop>(answer: Result<A, Refusal>) -> u8 {
-    match answer {
-        Ok(_) => 0,
-        Err(refusal) => refusal.number(),
-    }
 }
 
 #[test]
@@ -97,12 +103,21 @@ fn refuses(rt: HostRuntime) -> Result<(), Fail> {
     let mut board = [7u8; 1];
     let mut slots = [0usize; 1];
     let mut queue = Ring::new(&mut slots);
-    assert_eq!(rt; study.look(2, 0, &mut board, &mut queue)?.number(), 2);
-    assert_eq!(rt; number(study.look(3, 0, &mut board, &mut queue)), 16);
-    assert_eq!(rt; number(study.look(2, 1, &mut board, &mut queue)), 16);
-    assert_eq!(rt; number(study.set_rule(read(b"p1")?)), 12);
-    assert_eq!(rt; number(study.regroup(&[0, 2, 0])), 14);
+    assert_eq!(rt; study.look(2, 0, &mut board, &mut queue)?, Colour::T);
+    assert_eq!(rt;
+        study.look(3, 0, &mut board, &mut queue).err().map(u8::from),
+        Some(16)
+    );
+    assert_eq!(rt;
+        study.look(2, 1, &mut board, &mut queue).err().map(u8::from),
+        Some(16)
+    );
+    assert_eq!(rt; study.set_rule(read(b"p1")?).err().map(u8::from), Some(12));
+    assert_eq!(rt; study.regroup(&[0, 2, 0]).err().map(u8::from), Some(14));
     study.regroup(&[1, 0, 1])?;
-    assert_eq!(rt; number(study.judge(&mut board, &mut queue)), 15);
+    assert_eq!(rt;
+        study.judge(&mut board, &mut queue).err().map(u8::from),
+        Some(15)
+    );
     Ok(())
 }

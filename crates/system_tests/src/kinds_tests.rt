@@ -1,36 +1,38 @@
 // The numbers of answers and refusals, and the way back from bytes.
-use std::test::Fail;
 use systems::{Colour, Fault, Refusal, Step};
 
 #[test]
-fn steps_by_number(rt: HostRuntime) -> Result<(), Fail> {
-    assert_eq!(rt; Step::Absent.number(), 0);
-    assert_eq!(rt; Step::Unsure.number(), 1);
-    assert_eq!(rt; Step::Sure.number(), 2);
-    assert!(rt; Step::from_byte(1).ok_or("no step")?.number() == 1);
-    assert!(rt; Step::from_byte(3).is_none());
+fn steps_by_number(rt: HostRuntime) {
+    assert_eq!(rt; u8::from(Step::Absent), 0);
+    assert_eq!(rt; u8::from(Step::Unsure), 1);
+    assert_eq!(rt; u8::from(Step::Sure), 2);
+    assert_eq!(rt; Step::try_from(1).map(u8::from), Ok(1));
+    assert!(rt; Step::try_from(3).is_err());
     assert!(rt;
         !Step::Absent.is_possible() && Step::Unsure.is_possible() && Step::Sure.is_possible()
     );
-    Ok(())
 }
 
 #[test]
-fn colours_by_number(rt: HostRuntime) -> Result<(), Fail> {
-    assert_eq!(rt; Colour::Undecided.number(), 0);
-    assert_eq!(rt; Colour::F.number(), 1);
-    assert_eq!(rt; Colour::T.number(), 2);
-    assert!(rt; Colour::from_byte(2).ok_or("no colour")?.number() == 2);
-    assert!(rt; Colour::from_byte(3).is_none());
-    Ok(())
+fn steps_by_surety(rt: HostRuntime) {
+    assert!(rt; Step::Absent < Step::Unsure && Step::Unsure < Step::Sure);
+}
+
+#[test]
+fn colours_by_number(rt: HostRuntime) {
+    assert_eq!(rt; u8::from(Colour::Undecided), 0);
+    assert_eq!(rt; u8::from(Colour::F), 1);
+    assert_eq!(rt; u8::from(Colour::T), 2);
+    assert_eq!(rt; Colour::try_from(2).map(u8::from), Ok(2));
+    assert!(rt; Colour::try_from(3).is_err());
 }
 
 #[test]
 fn refusals_by_number(rt: HostRuntime) {
-    assert_eq!(rt; Refusal::FileLength.number(), 1);
-    assert_eq!(rt; Refusal::NotARule.number(), 9);
-    assert_eq!(rt; Refusal::OutOfRange.number(), 21);
-    assert_eq!(rt; Refusal::PassLimit.number(), 23);
+    assert_eq!(rt; u8::from(Refusal::FileLength), 1);
+    assert_eq!(rt; u8::from(Refusal::NotARule), 9);
+    assert_eq!(rt; u8::from(Refusal::OutOfRange), 21);
+    assert_eq!(rt; u8::from(Refusal::PassLimit), 23);
     assert_eq!(rt; Fault::at(Refusal::NotARule, 4).place, Some(4));
-    assert!(rt; Fault::of(Refusal::NoStart).place.is_none());
+    assert_eq!(rt; Fault::from(Refusal::NoStart).place, None);
 }

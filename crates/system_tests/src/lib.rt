@@ -8,4 +8,6 @@ mod kinds_tests;
 #[cfg(test)]
 mod pass_tests;
 #[cfg(test)]
+mod questions;
+#[cfg(test)]
 mod table_tests;

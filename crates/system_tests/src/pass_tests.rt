@@ -1,15 +1,12 @@
 // The pass store: its limits, its steps and marks, and questions out of range.
+use crate::questions::refusals;
 use std::test::Fail;
-use systems::{Census, PassStore, Refusal, System};
-
-fn number(refusal: Refusal) -> u8 {
-    refusal.number()
-}
+use systems::{Census, Colour, PassStore, Step, System};
 
 #[test]
 fn limits(rt: HostRuntime) -> Result<(), Fail> {
-    assert_eq!(rt; number(PassStore::new(0).err().ok_or("taken")?), 23);
-    assert_eq!(rt; number(PassStore::new(31).err().ok_or("taken")?), 23);
+    assert_eq!(rt; PassStore::new(0).err().map(u8::from), Some(23));
+    assert_eq!(rt; PassStore::new(31).err().map(u8::from), Some(23));
     assert_eq!(rt; PassStore::new(1)?.states(), 4);
     assert_eq!(rt; PassStore::new(30)?.states(), 62);
     Ok(())
@@ -18,23 +15,23 @@ fn limits(rt: HostRuntime) -> Result<(), Fail> {
 #[test]
 fn steps(rt: HostRuntime) -> Result<(), Fail> {
     let store = PassStore::new(3)?;
-    assert_eq!(rt; store.step(0, 2)?.number(), 2);
-    assert_eq!(rt; store.step(0, 3)?.number(), 1);
-    assert_eq!(rt; store.step(1, 3)?.number(), 2);
-    assert_eq!(rt; store.step(1, 2)?.number(), 0);
-    assert_eq!(rt; store.step(0, 4)?.number(), 0);
-    assert_eq!(rt; store.step(6, 6)?.number(), 2);
-    assert_eq!(rt; store.step(6, 7)?.number(), 0);
+    assert_eq!(rt; u8::from(store.step(0, 2)?), 2);
+    assert_eq!(rt; u8::from(store.step(0, 3)?), 1);
+    assert_eq!(rt; u8::from(store.step(1, 3)?), 2);
+    assert_eq!(rt; u8::from(store.step(1, 2)?), 0);
+    assert_eq!(rt; u8::from(store.step(0, 4)?), 0);
+    assert_eq!(rt; u8::from(store.step(6, 6)?), 2);
+    assert_eq!(rt; u8::from(store.step(6, 7)?), 0);
     Ok(())
 }
 
 #[test]
 fn marks_and_starts(rt: HostRuntime) -> Result<(), Fail> {
     let store = PassStore::new(3)?;
-    assert_eq!(rt; store.mark(5, 0)?.number(), 2);
-    assert_eq!(rt; store.mark(4, 0)?.number(), 1);
-    assert_eq!(rt; store.mark(6, 1)?.number(), 2);
-    assert_eq!(rt; store.mark(5, 1)?.number(), 1);
+    assert_eq!(rt; u8::from(store.mark(5, 0)?), 2);
+    assert_eq!(rt; u8::from(store.mark(4, 0)?), 1);
+    assert_eq!(rt; u8::from(store.mark(6, 1)?), 2);
+    assert_eq!(rt; u8::from(store.mark(5, 1)?), 1);
     assert!(rt; store.start(0)? && !store.start(1)?);
     Ok(())
 }
@@ -43,11 +40,18 @@ fn marks_and_starts(rt: HostRuntime) -> Result<(), Fail> {
 fn out_of_range(rt: HostRuntime) -> Result<(), Fail> {
     let store = PassStore::new(3)?;
     assert!(rt; store.step(7, 7).is_ok());
-    assert_eq!(rt; number(store.step(8, 0).err().ok_or("told")?), 21);
-    assert_eq!(rt; number(store.step(0, 8).err().ok_or("told")?), 21);
-    assert_eq!(rt; number(store.mark(8, 0).err().ok_or("told")?), 21);
-    assert_eq!(rt; number(store.mark(0, 2).err().ok_or("told")?), 21);
-    assert_eq!(rt; number(store.start(8).err().ok_or("told")?), 21);
+    assert_eq!(rt; refusals(&store, 8, 2), [Some(21); 5]);
+    Ok(())
+}
+
+#[test]
+fn answers_out_of_range(rt: HostRuntime) -> Result<(), Fail> {
+    let store = PassStore::new(3)?;
+    assert_eq!(rt; store.step_or_absent(6, 6), Step::Sure);
+    assert_eq!(rt; store.step_or_absent(8, 0), Step::Absent);
+    assert_eq!(rt; store.mark_or_unknown(5, 0), Colour::T);
+    assert_eq!(rt; store.mark_or_unknown(0, 2), Colour::Undecided);
+    assert!(rt; store.is_start(0) && !store.is_start(8));
     Ok(())
 }
 

@@ -1,6 +1,8 @@
 -- What is counted of a system is counted of every system that agrees with it.
-use Rattle.std.proofs.Common.{◌≡◌, ℕ, zero, suc, ◌<◌, Bool, cond, eqb, sym, refl, ap, ◌∙◌, arith}
-use Rattle.systems.specs.Below.{count_below, count_cells}
+use Rattle.std.proofs.Common.{◌≡◌, ◌<◌, eqb, sym, ap, ◌∙◌, arith}
+use Rattle.systems.proofs.Counts.{cells_alike}
+use Rattle.systems.proofs.Ranges.{count_alike}
+use Rattle.systems.specs.Below.{count_below}
 use Rattle.systems.specs.Counted.{Counted, is_step, is_mark, steps_of, marks_of}
 use Rattle.systems.specs.Model.{Model, Agree, Exact}
 use Rattle.systems.specs.Numbers.{step_number, colour_number}
@@ -10,35 +12,21 @@ use Rattle.systems.specs.declared.kinds.Step.TheVariants.{Absent, Unsure, Sure}
 use Rattle.systems.specs.declared.kinds.Colour.{Colour}
 use Rattle.systems.specs.declared.kinds.Colour.TheVariants.{Undecided, F, T}
 
-same_count : (a b : ℕ → Bool) (n : ℕ) → ((k : ℕ) → k < n → a k ≡ b k) → count_below a n ≡ count_below b n
-same_count a b zero h = refl
-same_count a b (suc n) h =
-    let rest = same_count a b n (λ k l. h k (omega arith)) in
-    let here : ◌≡◌ {A = ℕ} (cond (a n) 1 0) (cond (b n) 1 0) = ap (λ (x : Bool). cond x 1 0) (h n (omega arith)) in
-    omega arith
-
-same_cells : (a b : ℕ → ℕ → Bool) (rows columns : ℕ) → ((s t : ℕ) → s < rows → t < columns → a s t ≡ b s t) → count_cells a rows columns ≡ count_cells b rows columns
-same_cells a b zero columns h = refl
-same_cells a b (suc rows) columns h =
-    let rest = same_cells a b rows columns (λ s t l k. h s t (omega arith) k) in
-    let here = same_count (a rows) (b rows) columns (λ t k. h rows t (omega arith) k) in
-    omega arith
-
 module _ (m n : Model) (same : Agree m n) where
   same_steps : (k : Step) → steps_of n k ≡ steps_of m k
   same_steps k =
       rw (← same.states)
-      (same_cells (is_step n k) (is_step m k) m.states m.states
+      (cells_alike (is_step n k) (is_step m k) m.states m.states
       (λ s t l j. ap (λ (x : Step). eqb (step_number x) (step_number k)) (sym (same.step s t l j))))
 
   same_marks : (v : Colour) → marks_of n v ≡ marks_of m v
   same_marks v =
       rw (← same.states, ← same.marks)
-      (same_cells (is_mark n v) (is_mark m v) m.states m.marks
+      (cells_alike (is_mark n v) (is_mark m v) m.states m.marks
       (λ s p l j. ap (λ (x : Colour). eqb (colour_number x) (colour_number v)) (sym (same.mark s p l j))))
 
   same_starts : count_below n.start n.states ≡ count_below m.start m.states
-  same_starts = rw (← same.states) (same_count n.start m.start m.states (λ s l. sym (same.start s l)))
+  same_starts = rw (← same.states) (count_alike n.start m.start m.states (λ s l. sym (same.start s l)))
 
   exact_here : Exact n → Exact m
   exact_here x = record {

@@ -1,16 +1,7 @@
 -- Counting in a loop, and what a count of 0 says.
 use Rattle.std.proofs.Common.{◌≡◌, ℕ, zero, suc, ◌+◌, ◌*◌, ◌<◌, ◌≤◌, Bool, true, false, sym, refl, ap, ◌∙◌, ⊎_elim, le_of_suc-le-suc, not-suc-le-zero, eq-or-lt_of_le, add-one, arith}
 use Rattle.systems.specs.Below.{count_below, count_cells}
-
--- the count so far, after i numbers
-abbrev pub Counting : (ℕ → Bool) → ℕ → ℕ → Type 0
-Counting test i count = (count ≤ i) × (count ≡ count_below test i)
-
-pub count_hit : (test : ℕ → Bool) (i count : ℕ) → test i ≡ true → Counting test i count → Counting test (i + 1) (count + 1)
-count_hit test i count e c = let more : count_below test (i + 1) ≡ count_below test i + 1 = rw (add-one, e) refl in (omega arith, omega arith)
-
-pub count_miss : (test : ℕ → Bool) (i count : ℕ) → test i ≡ false → Counting test i count → Counting test (i + 1) count
-count_miss test i count e c = let more : count_below test (i + 1) ≡ count_below test i = rw (add-one, e) (omega arith) in (omega arith, omega arith)
+use Rattle.systems.proofs.Ranges.{count_alike}
 
 -- the count so far, after i rows of at most w
 abbrev pub Adding : (ℕ → ℕ → Bool) → ℕ → ℕ → ℕ → ℕ → Type 0
@@ -51,4 +42,12 @@ cells_none test zero columns h = refl
 cells_none test (suc rows) columns h =
     let here = below_none (test rows) columns (λ t k. h rows t (omega arith) k) in
     let rest = cells_none test rows columns (λ s t l k. h s t (omega arith) k) in
+    omega arith
+
+-- rows that agree in range
+pub cells_alike : (f g : ℕ → ℕ → Bool) (rows columns : ℕ) → ((s t : ℕ) → s < rows → t < columns → f s t ≡ g s t) → count_cells f rows columns ≡ count_cells g rows columns
+cells_alike f g zero columns h = refl
+cells_alike f g (suc rows) columns h =
+    let here = count_alike (f rows) (g rows) columns (λ t k. h rows t (omega arith) k) in
+    let rest = cells_alike f g rows columns (λ s t l k. h s t (omega arith) k) in
     omega arith

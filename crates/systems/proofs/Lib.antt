@@ -1,4 +1,6 @@
-pub mod Rows
+pub mod Questions
+pub mod Filling
+pub mod Ranges
 pub mod Counts
 pub mod Exactness
 pub mod Agreeing

@@ -1,5 +1,5 @@
 -- What a system is, and the laws that every system keeps.
-use Rattle.std.specs.Prelude.{◌≡◌, ℕ, ◌<◌, ◌≤◌, Bool, true, false, ◌&&◌, Ok, Err, Result, nat_lt}
+use Rattle.std.specs.Prelude.{◌≡◌, ℕ, ◌<◌, ◌≤◌, Bool, true, false, cond, ◌&&◌, Ok, Err, Result, nat_lt}
 use Rattle.systems.specs.declared.kinds.Step.{Step}
 use Rattle.systems.specs.declared.kinds.Step.TheVariants.{Absent, Unsure, Sure}
 use Rattle.systems.specs.declared.kinds.Colour.{Colour}
@@ -64,3 +64,13 @@ mark_answer m s p = asked (nat_lt s m.states && nat_lt p m.marks) (m.mark s p)
 
 abbrev pub start_answer : Model → ℕ → Result Bool Refusal
 start_answer m s = asked (nat_lt s m.states) (m.start s)
+
+-- the same where a number out of range is not refused: there is no step, the mark is unknown, and it is no start
+abbrev pub step_or_absent : Model → ℕ → ℕ → Step
+step_or_absent m s t = cond (nat_lt s m.states && nat_lt t m.states) (m.step s t) Absent
+
+abbrev pub mark_or_unknown : Model → ℕ → ℕ → Colour
+mark_or_unknown m s p = cond (nat_lt s m.states && nat_lt p m.marks) (m.mark s p) Undecided
+
+abbrev pub is_start : Model → ℕ → Bool
+is_start m s = nat_lt s m.states && m.start s

@@ -1,9 +1,10 @@
 -- The number of each answer and of each refusal, and the way back from a byte.
-use Rattle.std.specs.Prelude.{ℕ, Bool, true, false, cond, Some, None, Option, ◌==◌}
+use Rattle.std.specs.Prelude.{◌≡◌, ℕ, Bool, true, false, cond, Some, None, Option, Ok, Err, Result, ◌==◌}
 use Rattle.systems.specs.declared.kinds.Step.{Step}
 use Rattle.systems.specs.declared.kinds.Step.TheVariants.{Absent, Unsure, Sure}
 use Rattle.systems.specs.declared.kinds.Colour.{Colour}
 use Rattle.systems.specs.declared.kinds.Colour.TheVariants.{Undecided, F, T}
+use Rattle.systems.specs.declared.kinds.UnlistedByte.{UnlistedByte}
 use Rattle.systems.specs.declared.refusals.Refusal.{Refusal}
 use Rattle.systems.specs.declared.refusals.Refusal.TheVariants.{FileLength, CountRange, ContentsEntry, BodiesOverlap, BodyByte, NoStepOut, NoStart, RuleLength, NotARule, NestingDepth, TooManyClauses, MarkBeyondSystem, GroupList, UnusedGroup, WorkspaceTooSmall, NoSuchPosition, VerdictDecided, SlipBeyondStudy, MembersAgree, OpenListFull, OutOfRange, QueueFull, PassLimit}
 
@@ -28,6 +29,11 @@ colour_number T = 2
 
 abbrev pub colour_from : ℕ → Option Colour
 colour_from b = cond (b == 0) (Some Undecided) (cond (b == 1) (Some F) (cond (b == 2) (Some T) None))
+
+-- the answer for a byte: what it stands for, or the byte itself where it stands for nothing
+abbrev pub Decodes : {A : Type 0} → (ℕ → Option A) → ℕ → Result A UnlistedByte → Type 0
+Decodes from byte (Ok a) = from byte ≡ Some a
+Decodes from byte (Err e) = (from byte ≡ None) × (e.0 ≡ byte)
 
 abbrev pub refusal_number : Refusal → ℕ
 refusal_number FileLength = 1

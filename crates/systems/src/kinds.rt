@@ -1,10 +1,22 @@
 // What a system answers about a step and about a mark, each answer with its number.
-ghost use Rattle.std.specs.Prelude.{◌≡◌};
-ghost use Rattle.systems.specs.Numbers.{step_number, step_from, is_possible, colour_number, colour_from};
+ghost use Rattle.std.specs.Prelude.{◌≡◌, Some};
+ghost use Rattle.systems.specs.Numbers.{
+  step_number,
+  step_from,
+  is_possible,
+  colour_number,
+  colour_from,
+  Decodes,
+};
+ghost use Rattle.systems.specs.Passes.{known};
+ghost use Rattle.systems.specs.Texts.{colour_letter};
 
-// Whether there is a step from one state to another. The field's names for a sure and a possible
-// (unsure or sure) step are must and may transition.
-#[derive(Clone, Copy, PartialEq, Eq, Debug)]
+use std::error::Error;
+use std::fmt;
+
+// Whether there is a step from one state to another, the surer step the greater. The field's names
+// for a sure and a possible (unsure or sure) step are must and may transition.
+#[derive(Clone, Copy, PartialEq, Eq, PartialOrd, Ord, Debug)]
 pub enum Step {
     // There is none.
     Absent = 0,
@@ -15,6 +27,7 @@ pub enum Step {
 }
 
 // A three-valued truth value: of a mark at a state, where undecided means unknown, and of a rule.
+// It has no order of its own: the order of its numbers is not that of truth.
 #[derive(Clone, Copy, PartialEq, Eq, Debug)]
 pub enum Colour {
     Undecided = 0,
@@ -22,52 +35,95 @@ pub enum Colour {
     T = 2,
 }
 
-impl Step {
-    pub fn number(self) -> u8
-        ensures { result ≡ step_number self }
-    {
-        self as u8
-    }
+// A byte that stands for no step, or for no colour.
+#[derive(Clone, Copy, PartialEq, Eq, Debug)]
+pub struct UnlistedByte(pub u8);
 
+impl Step {
     // Whether it may exist: it is unsure or sure.
     pub fn is_possible(self) -> bool
         ensures { result ≡ is_possible self }
     {
-        match self {
-            Step::Absent => false,
-            Step::Unsure | Step::Sure => true,
-        }
+        self > Step::Absent
     }
+}
 
-    // The step that a byte stands for; no other byte stands for one.
-    pub fn from_byte(byte: u8) -> Option<Step>
-        ensures { result ≡ step_from byte }
-    {
+// The number of a step.
+impl From<Step> for u8 {
+    ghost from_gives = { λ step number. number ≡ step_number step };
+
+    fn from(step: Step) -> u8 {
+        step as u8
+    }
+}
+
+// The step that a byte stands for.
+impl TryFrom<u8> for Step {
+    type Error = UnlistedByte;
+
+    ghost try_from_gives = { Decodes step_from };
+
+    fn try_from(byte: u8) -> Result<Step, UnlistedByte> {
         match byte {
-            0 => Some(Step::Absent),
-            1 => Some(Step::Unsure),
-            2 => Some(Step::Sure),
-            _ => None,
+            0 => Ok(Step::Absent),
+            1 => Ok(Step::Unsure),
+            2 => Ok(Step::Sure),
+            _ => Err(UnlistedByte(byte)),
         }
     }
 }
 
-impl Colour {
-    pub fn number(self) -> u8
-        ensures { result ≡ colour_number self }
-    {
-        self as u8
-    }
+// The number of a colour.
+impl From<Colour> for u8 {
+    ghost from_gives = { λ colour number. number ≡ colour_number colour };
 
-    // The colour that a byte stands for; no other byte stands for one.
-    pub fn from_byte(byte: u8) -> Option<Colour>
-        ensures { result ≡ colour_from byte }
-    {
+    fn from(colour: Colour) -> u8 {
+        colour as u8
+    }
+}
+
+// T for true and F for false.
+impl From<bool> for Colour {
+    ghost from_gives = { λ holds colour. colour ≡ known holds };
+
+    fn from(holds: bool) -> Colour {
+        if holds { Colour::T } else { Colour::F }
+    }
+}
+
+// The colour that a byte stands for.
+impl TryFrom<u8> for Colour {
+    type Error = UnlistedByte;
+
+    ghost try_from_gives = { Decodes colour_from };
+
+    fn try_from(byte: u8) -> Result<Colour, UnlistedByte> {
         match byte {
-            0 => Some(Colour::Undecided),
-            1 => Some(Colour::F),
-            2 => Some(Colour::T),
-            _ => None,
+            0 => Ok(Colour::Undecided),
+            1 => Ok(Colour::F),
+            2 => Ok(Colour::T),
+            _ => Err(UnlistedByte(byte)),
         }
     }
 }
+
+// `T`, `F`, or `?` where it is undecided.
+impl fmt::Display for Colour {
+    ghost output = { λ colour. Some (colour_letter colour) };
+
+    fn fmt<W: fmt::Write>(&self, f: &mut fmt::Formatter<W>) -> fmt::Result {
+        f.write_str(match self {
+            Colour::T => "T",
+            Colour::F => "F",
+            Colour::Undecided => "?",
+        })
+    }
+}
+
+impl fmt::Display for UnlistedByte {
+    fn fmt<W: fmt::Write>(&self, f: &mut fmt::Formatter<W>) -> fmt::Result {
+        write!(f, "the byte {} stands for nothing here", self.0)
+    }
+}
+
+impl Error for UnlistedByte {}

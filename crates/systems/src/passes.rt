@@ -81,7 +81,7 @@ impl System for PassStore {
         } else {
             state / 2 == self.limit
         };
-        if holds { Ok(Colour::T) } else { Ok(Colour::F) }
+        Ok(Colour::from(holds))
     }
 
     fn start(&self, state: usize) -> Result<bool, Refusal> {

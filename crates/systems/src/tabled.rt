@@ -8,7 +8,8 @@ mod copying;
 mod making;
 
 // A row of 128 places holds the steps from a state, a row of 16 its marks; places beyond the number
-// of states or marks are not used.
+// of states or marks are not used. The arrays are fixed, since making a table may not fail for want
+// of memory.
 #[derive(Clone, Copy)]
 pub struct Table {
     states: usize,

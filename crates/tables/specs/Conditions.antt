@@ -1,11 +1,12 @@
 -- The conditions that a table file meets, in the order in which they are put, and the first that fails.
-use Rattle.std.specs.Prelude.{ℕ, ◌+◌, ◌*◌, Bool, cond, ◌&&◌, ◌||◌, List, length, Some, None, Option, ◌==◌, nat_le, nat_lt}
-use Rattle.systems.specs.Below.{all_below, any_below}
+use Rattle.std.specs.Prelude.{◌≡◌, ℕ, ◌+◌, ◌*◌, Bool, true, cond, ◌&&◌, ◌||◌, List, length, Some, None, Option, ◌==◌, nat_le, nat_lt}
+use Rattle.std.specs.List.{between, list_all, list_any}
+use Rattle.systems.specs.Below.{all_below}
 use Rattle.systems.specs.Faults.{without_place}
 use Rattle.systems.specs.declared.refusals.Fault.{Fault}
 use Rattle.systems.specs.declared.refusals.Refusal.{Refusal}
 use Rattle.systems.specs.declared.refusals.Refusal.TheVariants.{FileLength, CountRange, ContentsEntry, BodiesOverlap, BodyByte, NoStepOut, NoStart}
-use Rattle.tables.specs.Files.{byte, states_of, marks_of, offset, size, cell}
+use Rattle.tables.specs.Files.{states_of, marks_of, offset, size, steps_in, marks_in, starts_in}
 
 -- from 14 to 32,768 bytes
 abbrev pub sized : List ℕ → Bool
@@ -31,24 +32,20 @@ abbrev pub all_apart : (n p steps marks starts : ℕ) → Bool
 all_apart n p steps marks starts =
     apart steps (n * n) marks (n * p) && (apart steps (n * n) starts n && apart marks (n * p) starts n)
 
--- the byte k of the body has a value below the limit
-abbrev pub listed : List ℕ → (at limit k : ℕ) → Bool
-listed bytes at limit k = nat_lt (byte bytes (at + k)) limit
+-- each byte of a body is below the limit
+abbrev pub listed : (limit : ℕ) → List ℕ → Bool
+listed limit body = list_all (λ b. nat_lt b limit) body
 
 -- steps are 0 to 2, marks 0 to 2, starts 0 or 1
-abbrev pub all_listed : List ℕ → (n p steps marks starts : ℕ) → Bool
-all_listed bytes n p steps marks starts =
-    all_below (listed bytes steps 3) (n * n) && (all_below (listed bytes marks 3) (n * p) && all_below (listed bytes starts 2) n)
+abbrev pub all_listed : (steps marks starts : List ℕ) → Bool
+all_listed steps marks starts = listed 3 steps && (listed 3 marks && listed 2 starts)
 
 -- some byte in the row of the state is not 0
-abbrev pub filled : List ℕ → (at width row column : ℕ) → Bool
-filled bytes at width row column = nat_lt 0 (cell bytes at width row column)
+abbrev pub goes : (steps : List ℕ) → (n s : ℕ) → Bool
+goes steps n s = list_any (λ b. nat_lt 0 b) (between (s * n) (s * n + n) steps)
 
-abbrev pub goes : List ℕ → (steps n s : ℕ) → Bool
-goes bytes steps n s = any_below (filled bytes steps n s) n
-
-abbrev pub is_start : List ℕ → (starts s : ℕ) → Bool
-is_start bytes starts s = byte bytes (starts + s) == 1
+abbrev pub any_start : (starts : List ℕ) → Bool
+any_start starts = list_any (λ b. b == 1) starts
 
 -- the refusal where a condition fails, and else what comes after
 abbrev pub unless : Bool → Refusal → Option Fault → Option Fault
@@ -71,11 +68,11 @@ contents_fault bytes n p =
     (unless (all_apart n p (offset bytes 0) (offset bytes 1) (offset bytes 2)) BodiesOverlap
     None)
 
-abbrev pub bodies_fault : List ℕ → (n p steps marks starts : ℕ) → Option Fault
-bodies_fault bytes n p steps marks starts =
-    unless (all_listed bytes n p steps marks starts) BodyByte
-    (unless (all_below (goes bytes steps n) n) NoStepOut
-    (unless (any_below (is_start bytes starts) n) NoStart
+abbrev pub bodies_fault : (n : ℕ) → (steps marks starts : List ℕ) → Option Fault
+bodies_fault n steps marks starts =
+    unless (all_listed steps marks starts) BodyByte
+    (unless (all_below (goes steps n) n) NoStepOut
+    (unless (any_start starts) NoStart
     None))
 
 -- the first condition that fails: of the header, then of the contents, then of the bodies
@@ -83,4 +80,8 @@ abbrev pub file_fault : List ℕ → Option Fault
 file_fault bytes =
     first (header_fault bytes)
     (first (contents_fault bytes (states_of bytes) (marks_of bytes))
-    (bodies_fault bytes (states_of bytes) (marks_of bytes) (offset bytes 0) (offset bytes 1) (offset bytes 2)))
+    (bodies_fault (states_of bytes) (steps_in bytes) (marks_in bytes) (starts_in bytes)))
+
+-- what is kept of the bodies of a file that was accepted: steps are listed, each state has a step, and there is a start
+abbrev pub LawfulBodies : (n : ℕ) → (steps starts : List ℕ) → Type 0
+LawfulBodies n steps starts = (listed 3 steps ≡ true) × (all_below (goes steps n) n ≡ true) × (any_start starts ≡ true)

@@ -1,4 +1,3 @@
 pub mod Files
 pub mod Conditions
-pub mod Bodies
 pub mod laws

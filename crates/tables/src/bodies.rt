@@ -1,94 +1,58 @@
-// Looking through the bodies of a table file.
-ghost use Rattle.std.specs.Prelude.{◌≡◌, ◌+◌, ◌*◌, ◌<◌, ◌≤◌, length, Some, None, MatchResult};
-ghost use Rattle.systems.specs.Below.{all_below, any_below};
+// The counts and the three bodies of a table file, read where the bytes lie.
+ghost use Rattle.std.specs.Prelude.{◌≡◌, ◌*◌, ◌<◌, ◌≤◌, length, nat_lt};
+ghost use Rattle.std.specs.List.{list_any};
+ghost use Rattle.systems.specs.Below.{all_below};
 ghost use Rattle.systems.specs.Tabled.{InRange};
-ghost use Rattle.tables.specs.Bodies.{BodiesInside, LawfulBodies};
-ghost use Rattle.tables.specs.Conditions.{listed, goes, is_start, bodies_fault};
-ghost use Rattle.tables.specs.Files.{cell};
+ghost use Rattle.tables.specs.Conditions.{all_listed, goes, any_start};
 
-use crate::layout::Layout;
-use systems::{Fault, Refusal};
+use systems::{Colour, Step};
 
-// One more than the largest byte of a step, of a mark and of a start.
-const STEP_LIMIT: u8 = 3;
-
-const MARK_LIMIT: u8 = 3;
-
-const START_LIMIT: u8 = 2;
-
-// The byte at a row and a column of a body.
-pub(crate) fn byte_at(bytes: &[u8], at: usize, width: usize, row: usize, column: usize) -> u8
-    requires { at + row * width + column < length bytes.now }
-    ensures { result ≡ cell bytes.now at width row column }
-{
-    bytes[at + row * width + column]
-}
-
-// Whether each byte of a body is below a limit.
-fn is_listed(bytes: &[u8], at: usize, len: usize, limit: u8) -> bool
-    requires { at + len ≤ length bytes.now }
-    ensures { result ≡ all_below (listed bytes.now at limit) len }
-{
-    let mut all = true;
-    for k in 0..len {
-        all = (bytes[at + k] < limit) & all;
-    }
-    all
+#[derive(Clone, Copy)]
+pub(crate) struct Bodies<'a> {
+    pub(crate) states: usize,
+    pub(crate) marks: usize,
+    // A row for each state.
+    pub(crate) steps: &'a [u8],
+    pub(crate) values: &'a [u8],
+    pub(crate) starts: &'a [u8],
+    ghost ranged: { InRange states marks },
+    ghost steps_fill: { length steps.now ≡ states * states },
+    ghost values_fill: { length values.now ≡ states * marks },
+    ghost starts_fill: { length starts.now ≡ states },
 }
 
 // Whether a row of the steps has a byte that is not 0.
-fn row_goes(bytes: &[u8], at: usize, states: usize, row: usize) -> bool
-    requires { (at + states * states ≤ length bytes.now) × (row < states) }
-    ensures { result ≡ goes bytes.now at states row }
+fn has_step(row: &[u8]) -> bool
+    ensures { result ≡ list_any (λ b. nat_lt 0 b) row.now }
 {
-    let mut found = false;
-    for column in 0..states {
-        found = (0 < byte_at(bytes, at, states, row, column)) | found;
-    }
-    found
+    row.iter().any(|step| *step != 0)
 }
 
-// Whether each row of the steps has one.
-fn all_go(bytes: &[u8], at: usize, states: usize) -> bool
-    requires { at + states * states ≤ length bytes.now }
-    ensures { result ≡ all_below (goes bytes.now at states) states }
-{
-    let mut all = true;
-    for row in 0..states {
-        all = row_goes(bytes, at, states, row) & all;
-    }
-    all
-}
-
-// Whether some state is a start.
-fn any_start(bytes: &[u8], at: usize, states: usize) -> bool
-    requires { at + states ≤ length bytes.now }
-    ensures { result ≡ any_below (is_start bytes.now at) states }
-{
-    let mut found = false;
-    for state in 0..states {
-        found = (bytes[at + state] == 1) | found;
-    }
-    found
-}
-
-// Puts the conditions on the bytes of the bodies.
-pub(crate) fn check_bodies(bytes: &[u8], l: Layout) -> Result<(), Fault>
-    requires inside { BodiesInside bytes.now l.states l.marks l.steps_at l.marks_at l.starts_at }
-    requires ranged { InRange l.states l.marks }
-    ensures { MatchResult result (λ _. (bodies_fault bytes.now l.states l.marks l.steps_at l.marks_at l.starts_at ≡ None) × LawfulBodies bytes.now l.states l.marks l.steps_at l.marks_at l.starts_at) (λ e. bodies_fault bytes.now l.states l.marks l.steps_at l.marks_at l.starts_at ≡ Some e) }
-{
-    if !is_listed(bytes, l.steps_at, l.states * l.states, STEP_LIMIT)
-        || !is_listed(bytes, l.marks_at, l.states * l.marks, MARK_LIMIT)
-        || !is_listed(bytes, l.starts_at, l.states, START_LIMIT)
+impl Bodies<'_> {
+    // Whether each byte is one of those that are listed for its body.
+    pub(crate) fn is_listed(&self) -> bool
+        ensures { result ≡ all_listed self.now.steps.now self.now.values.now self.now.starts.now }
     {
-        return Err(Fault::of(Refusal::BodyByte));
+        let steps = self.steps.iter().all(|step| Step::try_from(*step).is_ok());
+        let values = self
+            .values
+            .iter()
+            .all(|value| Colour::try_from(*value).is_ok());
+        let starts = self.starts.iter().all(|start| *start <= 1);
+        steps && values && starts
     }
-    if !all_go(bytes, l.steps_at, l.states) {
-        return Err(Fault::of(Refusal::NoStepOut));
+
+    // Whether the row of each state has a byte that is not 0.
+    pub(crate) fn all_go(&self) -> bool
+        ensures { result ≡ all_below (goes self.now.steps.now self.now.states) self.now.states }
+    {
+        self.steps.chunks_exact(self.states).all(has_step)
     }
-    if !any_start(bytes, l.starts_at, l.states) {
-        return Err(Fault::of(Refusal::NoStart));
+
+    // Whether some state is a start.
+    pub(crate) fn has_start(&self) -> bool
+        ensures { result ≡ any_start self.now.starts.now }
+    {
+        self.starts.contains(&1)
     }
-    Ok(())
 }

@@ -1,82 +1,82 @@
 // A file that was accepted, as a system that is read where its bytes lie.
-ghost use Rattle.std.specs.Prelude.{◌≡◌, ◌<◌, ◌≤◌};
-ghost use Rattle.systems.specs.Tabled.{InRange};
-ghost use Rattle.tables.specs.Bodies.{BodiesInside, LawfulBodies};
-ghost use Rattle.tables.specs.Files.{body_model};
+ghost use Rattle.std.specs.Prelude.{◌≡◌, ◌+◌, ◌*◌, ◌<◌, Some, None, length, MatchResult};
+ghost use Rattle.tables.specs.Conditions.{LawfulBodies, bodies_fault};
+ghost use Rattle.tables.specs.Files.{body_model, cell};
 ghost use Rattle.tables.specs.laws.FileLaws.{file_lawful};
 
-use crate::bodies::byte_at;
-use crate::layout::Layout;
-use systems::{Colour, Refusal, Step, System};
+use crate::bodies::Bodies;
+use systems::{Colour, Fault, Refusal, Step, System};
 
 #[derive(Clone, Copy)]
 pub(crate) struct TableFile<'a> {
-    bytes: &'a [u8],
-    states: usize,
-    marks: usize,
-    steps_at: usize,
-    marks_at: usize,
-    starts_at: usize,
-    ghost ranged: { InRange states marks },
-    ghost inside: { BodiesInside bytes.now states marks steps_at marks_at starts_at },
-    ghost lawful: { LawfulBodies bytes.now states marks steps_at marks_at starts_at },
+    bodies: Bodies<'a>,
+    ghost lawful: { LawfulBodies bodies.states bodies.steps.now bodies.starts.now },
 }
 
 impl<'a> TableFile<'a> {
-    pub(crate) fn new(bytes: &'a [u8], layout: Layout) -> TableFile<'a>
-        requires ranged { InRange layout.states layout.marks }
-        requires inside { BodiesInside bytes.now layout.states layout.marks layout.steps_at layout.marks_at layout.starts_at }
-        requires lawful { LawfulBodies bytes.now layout.states layout.marks layout.steps_at layout.marks_at layout.starts_at }
-        ensures { (result.bytes.now ≡ bytes.now) × (result.states ≡ layout.states) × (result.marks ≡ layout.marks) × (result.steps_at ≡ layout.steps_at) × (result.marks_at ≡ layout.marks_at) × (result.starts_at ≡ layout.starts_at) }
+    // The file of these bodies, where their bytes meet the conditions.
+    pub(crate) fn new(bodies: Bodies<'a>) -> Result<TableFile<'a>, Fault>
+        ensures { MatchResult result (λ f. (bodies_fault bodies.entry.states bodies.entry.steps.now bodies.entry.values.now bodies.entry.starts.now ≡ None) × (f.bodies ≡ bodies.entry)) (λ e. bodies_fault bodies.entry.states bodies.entry.steps.now bodies.entry.values.now bodies.entry.starts.now ≡ Some e) }
     {
-        TableFile {
-            bytes,
-            states: layout.states,
-            marks: layout.marks,
-            steps_at: layout.steps_at,
-            marks_at: layout.marks_at,
-            starts_at: layout.starts_at,
+        if !bodies.is_listed() {
+            return Err(Refusal::BodyByte.into());
         }
+        if !bodies.all_go() {
+            return Err(Refusal::NoStepOut.into());
+        }
+        if !bodies.has_start() {
+            return Err(Refusal::NoStart.into());
+        }
+        Ok(TableFile { bodies })
     }
 }
 
-impl System for TableFile<'_> {
-    ghost meaning = { λ f. body_model f.bytes.now f.states f.marks f.steps_at f.marks_at f.starts_at };
+// The byte at a row and a column of a body.
+fn byte_at(body: &[u8], width: usize, row: usize, column: usize) -> u8
+    requires { row * width + column < length body.now }
+    ensures { result ≡ cell body.now width row column }
+{
+    body[row * width + column]
+}
 
-    ghost lawful = { λ f. file_lawful f.bytes.now f.states f.marks f.steps_at f.marks_at f.starts_at f.lawful f.ranged };
+impl System for TableFile<'_> {
+    ghost meaning = { λ f. body_model f.bodies.states f.bodies.marks f.bodies.steps.now f.bodies.values.now f.bodies.starts.now };
+
+    ghost lawful = { λ f. file_lawful f.bodies.states f.bodies.marks f.bodies.steps.now f.bodies.values.now f.bodies.starts.now f.lawful f.bodies.steps_fill f.bodies.starts_fill f.bodies.ranged };
 
     fn states(&self) -> usize {
-        self.states
+        self.bodies.states
     }
 
     fn marks(&self) -> usize {
-        self.marks
+        self.bodies.marks
     }
 
     fn step(&self, from: usize, to: usize) -> Result<Step, Refusal> {
-        if from >= self.states || to >= self.states {
+        let Bodies { states, steps, .. } = self.bodies;
+        if from >= states || to >= states {
             return Err(Refusal::OutOfRange);
         }
-        match Step::from_byte(byte_at(self.bytes, self.steps_at, self.states, from, to)) {
-            Some(step) => Ok(step),
-            None => Ok(Step::Absent),
-        }
+        Ok(Step::try_from(byte_at(steps, states, from, to)).unwrap_or(Step::Absent))
     }
 
     fn mark(&self, state: usize, mark: usize) -> Result<Colour, Refusal> {
-        if state >= self.states || mark >= self.marks {
+        let Bodies {
+            states,
+            marks,
+            values,
+            ..
+        } = self.bodies;
+        if state >= states || mark >= marks {
             return Err(Refusal::OutOfRange);
         }
-        match Colour::from_byte(byte_at(self.bytes, self.marks_at, self.marks, state, mark)) {
-            Some(value) => Ok(value),
-            None => Ok(Colour::Undecided),
-        }
+        Ok(Colour::try_from(byte_at(values, marks, state, mark)).unwrap_or(Colour::Undecided))
     }
 
     fn start(&self, state: usize) -> Result<bool, Refusal> {
-        if state >= self.states {
+        if state >= self.bodies.states {
             return Err(Refusal::OutOfRange);
         }
-        Ok(self.bytes[self.starts_at + state] == 1)
+        Ok(self.bodies.starts[state] == 1)
     }
 }

@@ -4,9 +4,9 @@
 mod bodies;
 mod contents;
 mod file;
-mod layout;
 pub mod reading;
 pub mod vetting;
 
+pub use contents::MAX_LENGTH;
 pub use reading::read;
 pub use vetting::vet;

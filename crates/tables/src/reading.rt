@@ -5,8 +5,7 @@ ghost use Rattle.systems.specs.Written.{table_model};
 ghost use Rattle.tables.specs.Conditions.{file_fault};
 ghost use Rattle.tables.specs.Files.{file_model};
 
-use crate::bodies::check_bodies;
-use crate::contents::{read_contents, read_header};
+use crate::contents::Front;
 use crate::file::TableFile;
 use systems::{Fault, Table};
 
@@ -14,8 +13,6 @@ use systems::{Fault, Table};
 pub fn read(bytes: &[u8]) -> Result<Table, Fault>
     ensures { MatchResult result (λ t. (file_fault bytes.now ≡ None) × Agree (file_model bytes.now) (table_model t)) (λ e. file_fault bytes.now ≡ Some e) }
 {
-    let (states, marks) = read_header(bytes)?;
-    let layout = read_contents(bytes, states, marks)?;
-    check_bodies(bytes, layout)?;
-    Ok(Table::copy_of(&TableFile::new(bytes, layout)))
+    let bodies = Front::of(bytes)?.bodies()?;
+    Ok(Table::copy_of(&TableFile::new(bodies)?))
 }

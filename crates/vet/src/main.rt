@@ -3,15 +3,15 @@
 
 use std::io;
 use std::io::Read;
-use tables::vet;
+use tables::{MAX_LENGTH, vet};
 
-// One byte more than the longest file that is accepted, so that a longer one is seen to be too long.
-const ENOUGH: u64 = 32769;
-
-// The first bytes of standard input; the rest is read and dropped, so that the sender can finish.
+// The first bytes of standard input, one more than the longest file that is accepted, so that a longer
+// one is seen to be too long. The rest is read and dropped, so that the sender can finish.
 fn input(rt: &HostRuntime) -> io::Result<Vec<u8>> {
     let mut bytes = Vec::new(rt.alloc());
-    rt.stdin().take(ENOUGH).read_to_end(&mut bytes)?;
+    rt.stdin()
+        .take(MAX_LENGTH as u64 + 1)
+        .read_to_end(&mut bytes)?;
     io::copy(&mut rt.stdin(), &mut io::sink())?;
     Ok(bytes)
 }
@@ -20,10 +20,6 @@ fn main(rt: HostRuntime) -> io::Result<()> {
     let bytes = input(&rt)?;
     match vet(&bytes) {
         Ok(census) => println!(rt; "{census}"),
-        Err(fault) => {
-            let refusal = fault.refusal;
-            println!(rt; "refused {}", refusal.number())?;
-            println!(rt; "{refusal}")
-        }
+        Err(fault) => println!(rt; "{fault}\n{}", fault.refusal),
     }
 }

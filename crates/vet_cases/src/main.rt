@@ -3,14 +3,16 @@
 // how many times it stands there.
 #![tactic(auto)]
 
+ghost use Rattle.std.specs.Prelude.{◌<◌, IfOk};
+
 use anyhow::anyhow;
 use std::io::{BufRead, BufReader};
-use tables::vet;
+use tables::{MAX_LENGTH, vet};
 
-// One byte more than the longest file that is accepted.
-const ENOUGH: usize = 32769;
-
-fn nibble(digit: u8) -> anyhow::Result<u8> {
+// By cases, since `to_digit` takes capital letters too, which are no digits here.
+fn nibble(digit: u8) -> anyhow::Result<u8>
+    ensures { IfOk result (λ n. n < 16) }
+{
     match digit {
         b'0'..=b'9' => Ok(digit - b'0'),
         b'a'..=b'f' => Ok(digit - b'a' + 10),
@@ -19,22 +21,22 @@ fn nibble(digit: u8) -> anyhow::Result<u8> {
 }
 
 fn byte_of(high: u8, low: u8) -> anyhow::Result<u8> {
-    Ok((nibble(high)? & 15) * 16 + (nibble(low)? & 15))
+    Ok(nibble(high)? * 16 + nibble(low)?)
 }
 
 // Adds a byte, unless there are enough to see that the file is too long.
 fn put(file: &mut Vec<u8>, byte: u8) -> anyhow::Result<()> {
-    if file.len() < ENOUGH {
+    if file.len() <= MAX_LENGTH {
         file.push(byte)?;
     }
     Ok(())
 }
 
 fn put_run(file: &mut Vec<u8>, byte: &str, count: &str) -> anyhow::Result<()> {
-    let [high, low] = byte.as_bytes() else {
+    let &[high, low] = byte.as_bytes() else {
         return Err(anyhow!("a run is of one byte"));
     };
-    let byte = byte_of(*high, *low)?;
+    let byte = byte_of(high, low)?;
     for _ in 0..count.parse::<u32>()? {
         put(file, byte)?;
     }
@@ -43,10 +45,10 @@ fn put_run(file: &mut Vec<u8>, byte: &str, count: &str) -> anyhow::Result<()> {
 
 fn put_digits(file: &mut Vec<u8>, digits: &str) -> anyhow::Result<()> {
     for pair in digits.as_bytes().chunks(2) {
-        let [high, low] = pair else {
+        let &[high, low] = pair else {
             return Err(anyhow!("a byte has two digits"));
         };
-        put(file, byte_of(*high, *low)?)?;
+        put(file, byte_of(high, low)?)?;
     }
     Ok(())
 }
@@ -61,11 +63,7 @@ fn report(rt: &HostRuntime, line: &str) -> anyhow::Result<()> {
     }
     match vet(&file) {
         Ok(census) => println!(rt; "{census}")?,
-        Err(fault) => {
-            let refusal = fault.refusal;
-            println!(rt; "refused {}", refusal.number())?;
-            println!(rt; "{refusal}")?;
-        }
+        Err(fault) => println!(rt; "{fault}\n{}", fault.refusal)?,
     }
     Ok(())
 }

@@ -1,13 +1,14 @@
 -- A column on its way down to a release.
-use Rattle.std.specs.Prelude.{◌≡◌, ℕ, ◌+◌, ◌<◌, ◌≤◌, ◌≢◌, ◌⊎◌, List, [], ◌∷◌, ◌++◌, length, slice_index, slice_set}
+use Rattle.std.specs.Prelude.{◌≡◌, ℕ, ◌+◌, ◌<◌, ◌≤◌, ◌≢◌, ◌⊎◌, List, [], ◌∷◌, ◌++◌, Some, None, Option, length, map, slice_index, slice_set}
 use Rattle.systems.specs.declared.kinds.Colour.{Colour}
 use Rattle.systems.specs.declared.kinds.Colour.TheVariants.{Undecided, F, T}
 use Rattle.systems.specs.Model.{Model}
 use Rattle.colours.specs.Walks.{Among}
 use Rattle.colours.specs.Values.{meet, rated, negate}
-use Rattle.colours.specs.Levels.{Level, On, Releases}
+use Rattle.colours.specs.Levels.{Level, On, Releases, IsRelease}
 use Rattle.colouring.specs.declared.columns.Columns.{Columns}
-use Rattle.colouring.specs.passes.Columns.{cell, column, OnlyColumn, Clean}
+use Rattle.colouring.specs.declared.notes.Note.{Note}
+use Rattle.colouring.specs.passes.Columns.{model, cell, column, OnlyColumn, Clean}
 use Rattle.colouring.specs.passes.Rising.{height}
 
 -- one colour lower
@@ -23,6 +24,18 @@ Within v w = meet v w ≡ v
 -- the colour at s is upheld by the step to u
 abbrev pub Upheld : Model → (ℕ → Colour) → (s u : ℕ) → Type 0
 Upheld M x s u = Within (x s) (meet (rated (M.step s u)) (x u))
+
+-- the first state from `from` on to which a step upholds the colour at s, if there is one
+abbrev pub First : Model → (ℕ → Colour) → (s from : ℕ) → Option ℕ → Type 0
+First M x s from (Some u) = (u < M.states) × Upheld M x s u × ((v : ℕ) → from ≤ v → v < u → ¬ Upheld M x s v)
+First M x s from None = (v : ℕ) → from ≤ v → v < M.states → ¬ Upheld M x s v
+
+-- what the notes say upholds each state, and from where on to try next
+abbrev pub witnesses : List Note → List ℕ
+witnesses = map (λ n. n.witness)
+
+abbrev pub trials : List Note → List ℕ
+trials = map (λ n. n.tried)
 
 -- how far the clause's column can still fall
 abbrev pub left_below : Columns → List ℕ → ℕ
@@ -64,3 +77,9 @@ pub record Falling (p : Columns) (M : Model) (b₀ b h w k : List ℕ) (t from :
   pub long : (M.states ≤ length w) × (M.states ≤ length k)
   pub tried : Tried p M b k
   pub pending : (s : ℕ) → s < M.states → ((slice_index w s ≡ t) × (from ≤ s)) ⊎ Stands p M b₀ b h (slice_index w s) s
+
+-- the column has come down from the board b₀ to the release of its parts
+pub record Fallen (p : Columns) (b₀ b : List ℕ) : Type 0 where
+  pub release : IsRelease (model p) (column p b₀ p.left) (column p b₀ p.right) (column p b p.whole)
+  pub clean : Clean p b
+  pub only : OnlyColumn p b₀ b

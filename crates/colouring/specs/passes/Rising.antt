@@ -5,9 +5,9 @@ use Rattle.systems.specs.declared.kinds.Colour.TheVariants.{Undecided, F, T}
 use Rattle.systems.specs.Model.{Model}
 use Rattle.colours.specs.Walks.{Among}
 use Rattle.colours.specs.Values.{join, meet, rated}
-use Rattle.colours.specs.Levels.{Level, counts, On, Untils}
+use Rattle.colours.specs.Levels.{Level, counts, On, Untils, IsUntil}
 use Rattle.colouring.specs.declared.columns.Columns.{Columns}
-use Rattle.colouring.specs.passes.Columns.{cell, column, OnlyColumn, Clean}
+use Rattle.colouring.specs.passes.Columns.{model, cell, column, OnlyColumn, Clean}
 
 -- how far a colour can still rise
 abbrev pub room_above : Colour → ℕ
@@ -48,3 +48,9 @@ pub record Rising (p : Columns) (M : Model) (b₀ b h : List ℕ) (started t fro
       → ((u ≡ t) × (from ≤ s))
       ⊎ (Among (cell p p.whole u) h
       ⊎ ((l : Level) → So (counts l (passed M (column p b₀ p.left) (column p b p.whole) s u)) → On l (column p b p.whole) s))
+
+-- the column has come up from the board b₀ to the until of its parts
+pub record Risen (p : Columns) (b₀ b : List ℕ) : Type 0 where
+  pub until : IsUntil (model p) (column p b₀ p.left) (column p b₀ p.right) (column p b p.whole)
+  pub clean : Clean p b
+  pub only : OnlyColumn p b₀ b

@@ -9,7 +9,7 @@ use Rattle.colours.specs.Boards.{place}
 use Rattle.colours.specs.Chains.{clause_at}
 use Rattle.engine.specs.declared.links.Link.{Link}
 use Rattle.engine.specs.declared.cause.looking.Finding.{Finding}
-use Rattle.engine.specs.declared.cause.looking.Finding.TheVariants.{End, Next, Nothing}
+use Rattle.engine.specs.declared.cause.looking.Finding.TheVariants.{End, Next}
 use Rattle.engine.specs.search.Looks.{sought_by, looks_of, look_of}
 
 -- positions, from each of which there are so many looks, and what each look shows
@@ -17,7 +17,7 @@ pub record Graph : Type 0 where
   pub groups : ℕ
   pub clauses : ℕ
   pub looks : Position → ℕ
-  pub look : Position → ℕ → Finding
+  pub look : Position → ℕ → Option Finding
 
 -- the positions of a rule with the looks that a board gives
 abbrev pub graph : Model → List Clause → List ℕ → Graph
@@ -38,11 +38,11 @@ Inside G C p = (p.group < G) × (p.clause < C)
 
 -- a look from p shows n
 abbrev pub Leads : Graph → Position → Position → Type 0
-Leads m p n = (k : ℕ) × (k < m.looks p) × (m.look p k ≡ Next n)
+Leads m p n = (k : ℕ) × (k < m.looks p) × (m.look p k ≡ Some (Next n))
 
 -- a look from p shows the end of a chain
 abbrev pub EndsThere : Graph → Position → Reason → Type 0
-EndsThere m p reason = (k : ℕ) × (k < m.looks p) × (m.look p k ≡ End reason)
+EndsThere m p reason = (k : ℕ) × (k < m.looks p) × (m.look p k ≡ Some (End reason))
 
 -- what a table tells of a position: the one before it, if it was seen
 abbrev pub before : ℕ → List (Option Position) → Position → Option Position
@@ -81,10 +81,10 @@ Waits p [] = ⊥
 Waits p (l ∷ ls) = (l.at ≡ p) ⊎ Waits p ls
 
 -- what a look showed is no end, and was seen
-abbrev pub Passed : ℕ → List (Option Position) → Finding → Type 0
-Passed C table (End reason) = ⊥
-Passed C table (Next n) = Seen C table n
-Passed C table Nothing = Unit {0}
+abbrev pub Passed : ℕ → List (Option Position) → Option Finding → Type 0
+Passed C table (Some (End reason)) = ⊥
+Passed C table (Some (Next n)) = Seen C table n
+Passed C table None = Unit {0}
 
 -- so did the first k looks from p
 abbrev pub Tried : Graph → List (Option Position) → ℕ → Position → Type 0
@@ -121,10 +121,12 @@ pub record Found (m : Graph) (start : Position) (table : List (Option Position))
   pub here : Known m table p
   pub end : EndsThere m p reason
 
--- what the looks from a position leave, of which those below k were taken
-abbrev pub Taken : Graph → Position → ℕ → List (Option Position) → List Link → List (Option Position) → List Link → Type 0
-Taken m from k table waiting table' waiting' =
-    (start : Position) → Spreading m start from 0 table waiting → Spreading m start from k table' waiting'
+-- what the looks from a position leave, from the one numbered j on: an end was found, or those below k were taken
+abbrev pub Taken : Graph → Position → (j k : ℕ) → List (Option Position) → List Link → List (Option Position) → List Link → Option Reason → Type 0
+Taken m from j k table waiting table' waiting' (Some reason) =
+    (start : Position) → Spreading m start from j table waiting → Found m start table' from reason
+Taken m from j k table waiting table' waiting' None =
+    (start : Position) → Spreading m start from j table waiting → Spreading m start from k table' waiting'
 
 -- what all of them leave: an end was found, or the search goes on
 abbrev pub SpreadOut : Graph → Position → List (Option Position) → List Link → List (Option Position) → List Link → Option Reason → Type 0
@@ -138,11 +140,6 @@ abbrev pub Searched : Graph → Position → List (Option Position) → Option (
 Searched m start table (Some r) = Found m start table r.0 r.1
 Searched m start table None = Searching m start table []
 
--- the table has a place for each position, and the queue for each that was not seen
-pub record Roomy (m : Graph) (table : List (Option Position)) (waiting : List Link) (places : ℕ) : Type 0 where
-  pub wide : m.groups * m.clauses ≤ length table
-  pub fits : unseen (m.groups * m.clauses) table + length waiting ≤ places
-
 -- what is done with a position that was shown, by what the table tells of it: nothing if it was seen
 abbrev pub Saw : Option Position → ℕ → Link → List (Option Position) → List Link → List (Option Position) → List Link → Type 0
 Saw None C l table waiting table' waiting' = (table' ≡ slice_set table (place_of C l.at) (Some l.from)) × (waiting' ≡ waiting ++ l ∷ [])
@@ -153,11 +150,10 @@ abbrev pub Space : Option Position → List Link → ℕ → Type 0
 Space None waiting places = length waiting < places
 Space (Some q) waiting places = Unit {0}
 
--- as many positions are unseen or wait
-abbrev pub SameSum : Graph → List (Option Position) → List Link → List (Option Position) → List Link → Type 0
-SameSum m table waiting table' waiting' =
-    unseen (m.groups * m.clauses) table' + length waiting' ≡ unseen (m.groups * m.clauses) table + length waiting
-
--- nothing stands in the table
-abbrev pub Cleared : List (Option Position) → Type 0
-Cleared table = (i : ℕ) → i < length table → slice_index_or table i None ≡ None
+-- what follows on a look: the end that it showed is answered and nothing is changed, or it is one look more that was taken
+abbrev pub Followed : Graph → Position → Option Finding → List (Option Position) → List Link → List (Option Position) → List Link → Option Reason → Type 0
+Followed m from finding table waiting table' waiting' (Some reason) =
+    (finding ≡ Some (End reason)) × (table' ≡ table) × (waiting' ≡ waiting)
+Followed m from finding table waiting table' waiting' None =
+    (start : Position) (k : ℕ) → k < m.looks from → m.look from k ≡ finding
+    → Spreading m start from k table waiting → Spreading m start from (k + 1) table' waiting'

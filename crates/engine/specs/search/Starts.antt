@@ -1,5 +1,5 @@
 -- Where a search for a cause begins, and the chain that it leaves.
-use Rattle.std.specs.Prelude.{◌≡◌, ℕ, ◌<◌, true, false, List, ◌∷◌, map, length, take, Some, None, Option}
+use Rattle.std.specs.Prelude.{◌≡◌, ℕ, ◌-◌, ◌<◌, true, false, List, ◌∷◌, map, length, take, Some, None, Option}
 use Rattle.systems.specs.Model.{Model}
 use Rattle.rules.specs.declared.syntax.Clause.{Clause}
 use Rattle.colours.specs.declared.chains.Position.{Position}
@@ -8,10 +8,11 @@ use Rattle.colours.specs.Boards.{Coloured}
 use Rattle.colours.specs.Chains.{Open, Chain}
 use Rattle.engine.specs.Causes.{open_start}
 
--- the lowest start with the byte 0 for the rule, if there is one
-abbrev pub LowestShown : Model → ℕ → List ℕ → Option ℕ → Type 0
-LowestShown M C board (Some g) =
-    (g < M.states) × (open_start M C board g ≡ true) × ((h : ℕ) → h < g → open_start M C board h ≡ false)
+-- the last of C clauses, which is the rule, at the lowest start with the byte 0 for it, if there is one
+abbrev pub LowestShown : Model → ℕ → List ℕ → Option Position → Type 0
+LowestShown M C board (Some p) =
+    (p.clause ≡ C - 1) × (p.group < M.states) × (open_start M C board p.group ≡ true)
+    × ((h : ℕ) → h < p.group → open_start M C board h ≡ false)
 LowestShown M C board None = (h : ℕ) → h < M.states → open_start M C board h ≡ false
 
 -- the first places of the list hold a chain from a position, as long as told

@@ -48,26 +48,13 @@ pub record Traced (G C : ℕ) (start end : Position) (table : List (Option Posit
   pub are : map position_in kept ≡ reverse (start ∷ rest)
   pub fits : suc (length rest) ≤ G * C
 
--- for some number of groups
-abbrev pub CanTrace : ℕ → Position → List (Option Position) → Position → ℕ → Type 0
-CanTrace C start table end places = (G : ℕ) × Traceable G C start table end places
-
--- for each number of groups and places
-abbrev pub TracesBack : ℕ → Position → Position → List (Option Position) → Position → List Link → Type 0
-TracesBack C start end table at kept =
-    (G places : ℕ) → Traceable G C start table end places → Tracing G C start end table places at kept
-
-abbrev pub AllTraced : ℕ → Position → Position → List (Option Position) → List Link → Type 0
-AllTraced C start end table kept = (G places : ℕ) → Traceable G C start table end places → Traced G C start end table kept
-
 -- and in the chain list
 abbrev pub some_position : Link → Option Position
 some_position l = Some l.at
 
--- of all links those that were taken out of the queue stand as positions from the place `left` on, the last taken out first
-pub record Writing (all kept : List Link) (left : ℕ) (list : List (Option Position)) : Type 0 where
+-- of all links those that were taken out of the queue stand as positions after the places for those kept, the last taken out first
+pub record Writing (all kept : List Link) (list : List (Option Position)) : Type 0 where
   pub done : List Link
   pub split : all ≡ done ++ kept
-  pub rest : left ≡ length kept
-  pub fits : left + length done ≤ length list
-  pub written : take (length done) (drop left list) ≡ map some_position (reverse done)
+  pub fits : length kept + length done ≤ length list
+  pub written : take (length done) (drop (length kept) list) ≡ map some_position (reverse done)

@@ -1,72 +1,58 @@
 // The way back from an end to the start, and the chain in order.
-ghost use Rattle.std.specs.Prelude.{◌≡◌, ◌<◌, ◌≤◌, true, false, ◌≢◌, map, reverse, length, take};
-ghost use Rattle.queue.specs.Held.{held, room};
-ghost use Rattle.engine.specs.search.Searches.{place_of, before};
-ghost use Rattle.engine.specs.search.Traces.{CanTrace, AllTraced, some_position};
+ghost use Rattle.std.specs.Prelude.{◌≡◌, ◌≤◌, map, reverse, length, take};
+ghost use Rattle.engine.specs.search.Scenes.{waiting, On, Keeps, LeadsBack, LedBack, FindsChain};
+ghost use Rattle.engine.specs.search.Traces.{some_position};
 
-use crate::cause::searching::{place_in, push_link};
+use crate::cause::searching::Search;
 use crate::links::Link;
-use colours::Position;
-use queue::Ring;
+use colours::{Position, Reason};
 
-// Whether two positions are one.
-fn same(a: Position, b: Position) -> bool
-    ensures yes { result ≡ true → a ≡ b }
-    ensures no { result ≡ false → a ≢ b }
-{
-    a.group == b.group && a.clause == b.clause
-}
-
-// What the chain list tells of a position: the one before it.
-fn one_before(chain: &[Option<Position>], clauses: usize, at: Position) -> Option<Position>
-    requires { place_of clauses at < length chain.now }
-    ensures { result ≡ before clauses chain.now at }
-{
-    chain[place_in(clauses, at)]
-}
-
-// Follows the chain list back from a position to the start, and puts the positions on the way into the queue.
-pub(crate) fn trace(
-    chain: &[Option<Position>],
-    clauses: usize,
-    start: Position,
-    end: Position,
-    links: &mut Ring<'_, Link>,
-)
-    requires { CanTrace clauses start chain.now end (room links.old) }
-    ensures traced { AllTraced clauses start end chain.now (held links.new) }
-    ensures room { room links.new ≡ room links.old }
-{
-    links.clear();
-    let mut at = end;
-    'back: while !same(at, start) {
-        let Some(from) = one_before(chain, clauses, at) else {
-            unreachable()
-        };
-        push_link(links, Link { at, from });
-        at = from;
-    }
-    push_link(
-        links,
-        Link {
+impl<'s, 'l, 'r> Search<'s, 'l, 'r> {
+    // Follows the chain list back from a position to the start, and puts the positions on the way into the queue.
+    fn trace(&mut self, start: Position, end: Position)
+        requires { LeadsBack self.old start end }
+        ensures traced { LedBack self.old start end self.new }
+        ensures chain { self.new.chain.now ≡ self.old.chain.now }
+        ensures keeps { Keeps self.old self.new }
+    {
+        self.links.clear();
+        let mut at = end;
+        'back: while at != start {
+            let from = self.before(at).unwrap();
+            self.push(Link { at, from });
+            at = from;
+        }
+        self.push(Link {
             at: start,
             from: start,
-        },
-    );
-}
-
-// Writes the positions in the queue into the first places of a list, the last first, and answers how many.
-pub(crate) fn write(links: &mut Ring<'_, Link>, chain: &mut [Option<Position>]) -> usize
-    requires fits { length (held links.old) ≤ length chain.old }
-    ensures count { result ≡ length (held links.old) }
-    ensures written { take result chain.new ≡ map some_position (reverse (held links.old)) }
-    ensures room { room links.new ≡ room links.old }
-{
-    let count = links.len();
-    let mut left = count;
-    while let Some(link) = links.pop() {
-        left -= 1;
-        chain[left] = Some(link.at);
+        });
     }
-    count
+
+    // Writes the positions in the queue into the first places of the chain list, the last first, and
+    // answers how many.
+    fn write(&mut self) -> usize
+        requires { length (waiting self.old) ≤ length self.old.chain.now }
+        ensures count { result ≡ length (waiting self.old) }
+        ensures written { take result self.new.chain.now ≡ map some_position (reverse (waiting self.old)) }
+        ensures keeps { Keeps self.old self.new }
+    {
+        let count = self.links.len();
+        while let Some(link) = self.links.pop() {
+            // The place after those that still wait.
+            let place = self.links.len();
+            self.chain[place] = Some(link.at);
+        }
+        count
+    }
+
+    // Seeks a chain from a position, and writes it into the first places of the chain list.
+    pub(crate) fn chain_from(&mut self, start: Position) -> Option<(Reason, usize)>
+        requires { On self.old.scene start }
+        ensures found { FindsChain self.old start self.new result }
+        ensures keeps { Keeps self.old self.new }
+    {
+        let (end, reason) = self.run(start)?;
+        self.trace(start, end);
+        Some((reason, self.write()))
+    }
 }

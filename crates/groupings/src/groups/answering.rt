@@ -3,7 +3,6 @@ ghost use Rattle.groupings.specs.Grouped.{grouping_model};
 ghost use Rattle.groupings.specs.laws.GroupLaws.{grouping_lawful};
 
 use super::Grouping;
-use super::joining::{group_mark, group_start, group_step};
 use systems::{Colour, Refusal, Step, System};
 
 impl<S: System> System for Grouping<S> {
@@ -20,26 +19,24 @@ impl<S: System> System for Grouping<S> {
     }
 
     fn step(&self, from: usize, to: usize) -> Result<Step, Refusal> {
-        let members = self.members();
-        if from >= members.groups() || to >= members.groups() {
+        let groups = self.states();
+        if from >= groups || to >= groups {
             return Err(Refusal::OutOfRange);
         }
-        Ok(group_step(&self.system, &members, from, to))
+        Ok(self.fitted().step(from, to))
     }
 
     fn mark(&self, state: usize, mark: usize) -> Result<Colour, Refusal> {
-        let members = self.members();
-        if state >= members.groups() || mark >= self.system.marks() {
+        if state >= self.states() || mark >= self.marks() {
             return Err(Refusal::OutOfRange);
         }
-        Ok(group_mark(&self.system, &members, state, mark))
+        Ok(self.fitted().mark(state, mark))
     }
 
     fn start(&self, state: usize) -> Result<bool, Refusal> {
-        let members = self.members();
-        if state >= members.groups() {
+        if state >= self.states() {
             return Err(Refusal::OutOfRange);
         }
-        Ok(group_start(&self.system, &members, state))
+        Ok(self.fitted().start(state))
     }
 }

@@ -1,17 +1,19 @@
 // Splitting a group by what leaves a rule undecided there.
-ghost use Rattle.std.specs.Prelude.{◌≡◌, ℕ, ◌<◌, ◌≤◌, true, length, Decides, MatchOption};
-ghost use Rattle.systems.specs.Below.{any_below};
+ghost use Rattle.std.specs.Prelude.{◌≡◌, ◌<◌, ℕ, Decides, MatchOption};
 ghost use Rattle.colours.specs.Groupings.{group_named};
 ghost use Rattle.groupings.specs.Grouped.{groups_at, KeptIfRefused, Split};
-ghost use Rattle.groupings.specs.Members.{group_of, group_count, flagged};
+ghost use Rattle.groupings.specs.Joined.{asked};
+ghost use Rattle.groupings.specs.Members.{group_of, group_count};
 ghost use Rattle.groupings.specs.Memberships.{groups_of};
-ghost use Rattle.groupings.specs.Splits.{Within, answer_number, departs, MembersDiffer, Divided, Told};
+ghost use Rattle.groupings.specs.Splits.{Within, Concerned, MembersDiffer, Divided, Told};
+ghost use Rattle.groupings.specs.Answers.{answer_of};
 
 use super::Grouping;
-use super::joining::strength;
-use crate::asking::mark_of;
+use super::answers::Answer;
+use super::fitted::Fitted;
 use crate::members::Membership;
 use colours::Reason;
+use std::array;
 use systems::{Refusal, System};
 
 // Whether the group of a reason and its mark or target exist.
@@ -29,99 +31,53 @@ fn group_in(reason: Reason) -> usize
     ensures { result ≡ group_named reason }
 {
     match reason {
-        Reason::UnknownMark { group, .. } => group,
-        Reason::UnsureStep { group, .. } => group,
+        Reason::UnknownMark { group, .. } | Reason::UnsureStep { group, .. } => group,
     }
 }
 
-// The number of a state's mark, or of its strength into the target.
-fn answer<S: System>(system: &S, members: &Membership, reason: Reason, state: usize) -> u8
-    requires low { state < (S.meaning system.now).states }
-    requires within { Within (group_count (groups_of members.now)) (S.meaning system.now).marks reason }
-    ensures { result ≡ answer_number (S.meaning system.now) (group_of (groups_of members.now)) reason state }
-{
-    match reason {
-        Reason::UnknownMark { mark, .. } => mark_of(system, state, mark).number(),
-        Reason::UnsureStep { target, .. } => strength(system, members, state, target).number(),
+impl<S: System> Fitted<'_, S> {
+    // What a state answers to a reason.
+    fn answer(&self, reason: Reason, state: usize) -> Answer
+        ensures { result ≡ answer_of (asked (S.meaning self.now.system.now)) (group_of (groups_of self.now.members)) reason state }
+    {
+        match reason {
+            Reason::UnknownMark { mark, .. } => {
+                Answer::Mark(self.system.mark_or_unknown(state, mark))
+            }
+            Reason::UnsureStep { target, .. } => Answer::Strength(self.strength(state, target)),
+        }
     }
-}
 
-// Whether a state is in the group and has another answer than this.
-fn departs<S: System>(
-    system: &S,
-    members: &Membership,
-    reason: Reason,
-    group: usize,
-    lead: u8,
-    state: usize,
-) -> bool
-    requires low { state < (S.meaning system.now).states }
-    requires within { Within (group_count (groups_of members.now)) (S.meaning system.now).marks reason }
-    ensures { result ≡ departs (S.meaning system.now) (group_of (groups_of members.now)) reason group lead state }
-{
-    members.group_of(state) == group && answer(system, members, reason, state) != lead
-}
-
-// Flags the states that depart.
-fn departing<S: System>(
-    system: &S,
-    members: &Membership,
-    reason: Reason,
-    group: usize,
-    lead: u8,
-) -> [bool; 128]
-    requires { Within (group_count (groups_of members.now)) (S.meaning system.now).marks reason }
-    ensures at { (s : ℕ) → s < (S.meaning system.now).states → flagged result s ≡ departs (S.meaning system.now) (group_of (groups_of members.now)) reason group lead s }
-    ensures long { length result ≡ 128 }
-{
-    let mut flags = [false; 128];
-    for state in 0..system.states() {
-        flags[state] = departs(system, members, reason, group, lead, state);
+    // Whether a state is in the reason's group and gives another answer than this.
+    fn departs(&self, reason: Reason, lead: Answer, state: usize) -> bool
+        ensures { Decides result (Concerned (S.meaning self.now.system.now) reason (groups_of self.now.members) state × ¬ (answer_of (asked (S.meaning self.now.system.now)) (group_of (groups_of self.now.members)) reason state ≡ lead)) }
+    {
+        state < self.members.states()
+            && self.members.group_of(state) == group_in(reason)
+            && self.answer(reason, state) != lead
     }
-    flags
-}
 
-// Flags the members of the reason's group that do not answer as its lowest-numbered one does.
-fn dissenting<S: System>(system: &S, members: &Membership, reason: Reason) -> [bool; 128]
-    requires fits { length (groups_of members.now) ≡ (S.meaning system.now).states }
-    requires within { Within (group_count (groups_of members.now)) (S.meaning system.now).marks reason }
-    ensures told { Told (S.meaning system.now) reason (groups_of members.now) result }
-    ensures long { length result ≡ 128 }
-{
-    let group = group_in(reason);
-    let lead = members.lowest(group);
-    departing(
-        system,
-        members,
-        reason,
-        group,
-        answer(system, members, reason, lead),
-    )
-}
-
-// Whether one of the first states is flagged.
-fn any_flagged(flags: &[bool], states: usize) -> bool
-    requires { states ≤ length flags.now }
-    ensures { result ≡ any_below (flagged flags.now) states }
-{
-    let mut found = false;
-    for state in 0..states {
-        found = flags[state] | found;
+    // Flags the members of the reason's group that do not answer as its lowest-numbered one does.
+    fn dissenting(&self, reason: Reason) -> [bool; 128]
+        requires { Within (group_count (groups_of self.now.members)) (S.meaning self.now.system.now).marks reason }
+        ensures { Told (S.meaning self.now.system.now) reason (groups_of self.now.members) result }
+    {
+        let lead = self.answer(reason, self.members.lowest(group_in(reason)));
+        array::from_fn(|state| self.departs(reason, lead, state))
     }
-    found
-}
 
-// The groups after a split, or none where all members answer alike.
-fn divided<S: System>(system: &S, members: &Membership, reason: Reason) -> Option<Membership>
-    requires fits { length (groups_of members.now) ≡ (S.meaning system.now).states }
-    requires within { Within (group_count (groups_of members.now)) (S.meaning system.now).marks reason }
-    ensures { MatchOption result (MembersDiffer (S.meaning system.now) reason (groups_of members.now) → ⊥) (λ m. MembersDiffer (S.meaning system.now) reason (groups_of members.now) × Divided (S.meaning system.now) reason (groups_of members.now) (groups_of m)) }
-{
-    let flags = dissenting(system, members, reason);
-    if !any_flagged(&flags, members.states()) {
-        return None;
+    // The groups after a split, or none where all members answer alike.
+    fn divided(&self, reason: Reason) -> Option<Membership>
+        requires { Within (group_count (groups_of self.now.members)) (S.meaning self.now.system.now).marks reason }
+        ensures { MatchOption result (MembersDiffer (S.meaning self.now.system.now) reason (groups_of self.now.members) → ⊥) (λ m. MembersDiffer (S.meaning self.now.system.now) reason (groups_of self.now.members) × Divided (S.meaning self.now.system.now) reason (groups_of self.now.members) (groups_of m)) }
+    {
+        let flags = self.dissenting(reason);
+        if flags.iter().any(|flag| *flag) {
+            Some(self.members.moved(&flags))
+        } else {
+            None
+        }
     }
-    Some(members.moved(&flags))
 }
 
 impl<S: System> Grouping<S> {
@@ -133,16 +89,11 @@ impl<S: System> Grouping<S> {
         ensures answer { Split (S.System.meaning self.old.system) reason (groups_at S.System.meaning self.old) (groups_at S.System.meaning self.new) result }
         ensures kept { KeptIfRefused result self.old self.new }
     {
-        let members = self.members();
-        if !is_within(reason, members.groups(), self.system.marks()) {
+        let fitted = self.fitted();
+        if !is_within(reason, fitted.members.groups(), fitted.system.marks()) {
             return Err(Refusal::SlipBeyondStudy);
         }
-        match divided(&self.system, &members, reason) {
-            None => Err(Refusal::MembersAgree),
-            Some(after) => {
-                self.members = after;
-                Ok(())
-            }
-        }
+        self.members = fitted.divided(reason).ok_or(Refusal::MembersAgree)?;
+        Ok(())
     }
 }

@@ -1,61 +1,41 @@
 // A membership from the list of the states' groups.
-ghost use Rattle.std.specs.Prelude.{◌≡◌, ℕ, ◌<◌, ◌≤◌, length, take};
+ghost use Rattle.std.specs.Prelude.{◌≡◌, ◌≤◌, ◌==◌, length, take};
+ghost use Rattle.std.specs.List.{list_any};
 ghost use Rattle.systems.specs.Below.{all_below};
-ghost use Rattle.groupings.specs.Members.{largest, is_used};
+ghost use Rattle.groupings.specs.Members.{largest};
 ghost use Rattle.groupings.specs.Memberships.{Listed};
 
 use super::Membership;
-use systems::Refusal;
+use systems::{MAX_STATES, Refusal};
 
-const MAX_STATES: usize = 128;
-
-// The largest byte.
+// The largest byte, 0 where there is none.
 fn largest(bytes: &[u8]) -> usize
-    ensures is { result ≡ largest bytes.now }
-    ensures byte { result < 256 }
+    ensures { result ≡ largest bytes.now }
 {
-    let mut top = 0;
-    for k in 0..bytes.len() {
-        let byte = bytes[k] as usize;
-        if top < byte {
-            top = byte;
-        }
-    }
-    top
+    usize::from(bytes.iter().copied().max().unwrap_or(0))
 }
 
 // Whether one of the bytes is the number of this group.
 fn is_used(bytes: &[u8], group: usize) -> bool
-    ensures { result ≡ is_used bytes.now (length bytes.now) group }
+    ensures { result ≡ list_any (λ b. b == group) bytes.now }
 {
-    let mut found = false;
-    for k in 0..bytes.len() {
-        found = (bytes[k] as usize == group) | found;
-    }
-    found
+    bytes.iter().any(|byte| usize::from(*byte) == group)
 }
 
 // Whether each of so many groups is used.
 fn all_used(bytes: &[u8], groups: usize) -> bool
-    ensures { result ≡ all_below (is_used bytes.now (length bytes.now)) groups }
+    ensures { result ≡ all_below (λ g. list_any (λ b. b == g) bytes.now) groups }
 {
-    let mut all = true;
-    for group in 0..groups {
-        all = is_used(bytes, group) & all;
-    }
-    all
+    (0..groups).all(|group| is_used(bytes, group))
 }
 
 // The bytes in the first places of an array.
 fn copied(bytes: &[u8]) -> [u8; 128]
     requires { length bytes.now ≤ 128 }
-    ensures same { take (length bytes.now) result ≡ bytes.now }
-    ensures long { length result ≡ 128 }
+    ensures { take (length bytes.now) result ≡ bytes.now }
 {
     let mut numbers = [0; 128];
-    for k in 0..bytes.len() {
-        numbers[k] = bytes[k];
-    }
+    numbers[..bytes.len()].copy_from_slice(bytes);
     numbers
 }
 
@@ -66,7 +46,7 @@ impl Membership {
     pub fn from_list(states: usize, bytes: &[u8]) -> Result<Membership, Refusal>
         ensures { Listed states bytes.now result }
     {
-        if states < 1 || states > MAX_STATES || bytes.len() != states {
+        if !(1..=MAX_STATES).contains(&states) || bytes.len() != states {
             return Err(Refusal::GroupList);
         }
         let last = largest(bytes);

@@ -4,21 +4,14 @@ ghost use Rattle.groupings.specs.Members.{group_of, group_count};
 ghost use Rattle.groupings.specs.Memberships.{groups_of, groups_in, nearest};
 
 use super::Membership;
-
-const MAX_STATES: usize = 128;
+use systems::MAX_STATES;
 
 // The nearest number of states that a system can have.
 fn nearest(states: usize) -> usize
     ensures is { result ≡ nearest states }
     ensures range { (1 ≤ result) × (result ≤ 128) }
 {
-    if states < 1 {
-        1
-    } else if states > MAX_STATES {
-        MAX_STATES
-    } else {
-        states
-    }
+    states.clamp(1, MAX_STATES)
 }
 
 impl Membership {
@@ -53,11 +46,9 @@ impl Membership {
         ensures is { result ≡ group_of (groups_of self.now) state }
         ensures below { (result < group_count (groups_of self.now)) × (result < 128) }
     {
-        if state < self.states {
-            self.numbers[state] as usize
-        } else {
-            0
-        }
+        self.numbers[..self.states]
+            .get(state)
+            .map_or(0, |number| usize::from(*number))
     }
 
     // The membership for a system with so many states: itself, or else all in group 0.
@@ -79,11 +70,8 @@ impl Membership {
         ensures here { group_of (groups_of self.now) result ≡ group }
         ensures first { (s : ℕ) → s < result → group_of (groups_of self.now) s ≢ group }
     {
-        for state in 0..self.states {
-            if self.group_of(state) == group {
-                return state;
-            }
-        }
-        unreachable()
+        (0..self.states)
+            .find(|state| self.group_of(*state) == group)
+            .unwrap()
     }
 }

@@ -16,6 +16,7 @@ impl LineBuffer {
     }
 
     // The line has one byte more.
+    #[tactic(auto, using(crate::proofs::Lines::push_kept, crate::proofs::Lines::push_full))]
     pub fn push(&mut self, byte: u8)
         ensures { (line : List ℕ) → Keeps self.old line → Keeps self.new (line ++ byte ∷ []) }
     {
@@ -43,6 +44,6 @@ impl LineBuffer {
     pub fn text(&self) -> &[u8]
         ensures { result.now ≡ line_bytes self.now }
     {
-        &self.bytes[0..self.count]
+        &self.bytes[..self.count]
     }
 }

@@ -1,14 +1,24 @@
 // What a queue does, by the list that it holds and the room that it has.
-ghost use Rattle.std.specs.Prelude.{◌≡◌, [], length};
-ghost use Rattle.queue.specs.Held.{held, room, Pushed, Popped};
+ghost use Rattle.std.specs.Prelude.{◌≡◌, ◌+◌, ◌%◌, ◌<◌, ◌≤◌, [], length};
+ghost use Rattle.queue.specs.Held.{room, Pushed, Popped};
 
 use super::Ring;
 use systems::Refusal;
 
+// The place that lies so many places on, going round at the end. The sum of the two need not fit
+// where the elements take no bytes, so it is made only before the end.
+fn place_after(at: usize, steps: usize, places: usize) -> usize
+    requires { (at < places) × (steps ≤ places) }
+    ensures { result ≡ (at + steps) % places }
+{
+    let before = places - steps;
+    if at < before { at + steps } else { at - before }
+}
+
 impl<'a, T: Copy> Ring<'a, T> {
     // An empty queue with a place for each element of the slice.
     pub fn new(slots: &'a mut [T]) -> Self
-        ensures empty { held result ≡ [] }
+        ensures empty { result.held ≡ [] }
         ensures room { room result ≡ length slots.old }
     {
         Ring {
@@ -26,13 +36,13 @@ impl<'a, T: Copy> Ring<'a, T> {
     }
 
     pub fn len(&self) -> usize
-        ensures { result ≡ length (held self.now) }
+        ensures { result ≡ length self.now.held }
     {
         self.len
     }
 
     pub fn clear(&mut self)
-        ensures empty { held self.new ≡ [] }
+        ensures empty { self.new.held ≡ [] }
         ensures room { room self.new ≡ room self.old }
     {
         self.head = 0;
@@ -43,17 +53,11 @@ impl<'a, T: Copy> Ring<'a, T> {
     pub fn push(&mut self, element: T) -> Result<(), Refusal>
         ensures { Pushed self.old element self.new result }
     {
-        let capacity = self.slots.len();
-        if self.len >= capacity {
+        let places = self.slots.len();
+        if self.len >= places {
             return Err(Refusal::QueueFull);
         }
-        let free = capacity - self.len;
-        let at = if self.head < free {
-            self.head + self.len
-        } else {
-            self.head - free
-        };
-        self.slots[at] = element;
+        self.slots[place_after(self.head, self.len, places)] = element;
         self.len += 1;
         Ok(())
     }
@@ -66,11 +70,7 @@ impl<'a, T: Copy> Ring<'a, T> {
             return None;
         }
         let first = self.slots[self.head];
-        self.head = if self.head + 1 < self.slots.len() {
-            self.head + 1
-        } else {
-            0
-        };
+        self.head = place_after(self.head, 1, self.slots.len());
         self.len -= 1;
         Some(first)
     }

@@ -1,14 +1,14 @@
 -- A reader of rules that takes one byte at a time and keeps on a stack what it has begun. The recursive reader
 -- comes to the same outcome, and what this one accepts is what the grammar spells.
-use Rattle.std.specs.Prelude.{ℕ, suc, ◌-◌, cond, ◌&&◌, List, [], ◌∷◌, length, Some, None, Option, ◌==◌, nat_le}
+use Rattle.std.specs.Prelude.{ℕ, suc, ◌+◌, cond, List, [], ◌∷◌, length, Some, None, Option, option_map, ◌==◌}
 use Rattle.rules.specs.declared.syntax.Quantifier.{Quantifier}
 use Rattle.rules.specs.declared.syntax.Operator.{Operator}
 use Rattle.rules.specs.declared.pieces.Prefix.{Prefix}
 use Rattle.rules.specs.declared.pieces.Bracket.{Bracket}
+use Rattle.rules.specs.declared.pieces.Head.{Head}
 use Rattle.rules.specs.declared.pieces.Start.{Start}
-use Rattle.rules.specs.declared.pieces.Follow.{Follow}
 use Rattle.rules.specs.Trees.{Tree}
-use Rattle.rules.specs.reader.Bytes.{start_of, follow_of, joining}
+use Rattle.rules.specs.reader.Bytes.{start_of, follow_of, joining, digit_of, closes}
 
 -- what a rule is a part of: a prefix before it; a bracket before it; or a bracket, the left rule and the operator
 pub data Frame : Type 0 where
@@ -23,39 +23,43 @@ pub data State : Type 0 where
   digit_wanted after_one : List Frame → State
   letter : Quantifier → List Frame → State
 
-unfoldable pub begin : Start → List Frame → Option State
-begin (Start.Constant b) k = Some (have (Tree.constant b) k)
-begin Start.Mark k = Some (digit_wanted k)
-begin Start.Not k = Some (want (under Prefix.Not ∷ k))
-begin (Start.Letter q) k = Some (letter q k)
-begin Start.Open k = Some (want (left Bracket.Plain ∷ k))
-begin Start.Other k = None
+-- the state after the first piece of a rule
+abbrev pub headed : Head → List Frame → State
+headed (Head.Constant b) k = have (Tree.constant b) k
+headed (Head.Mark n) k = have (Tree.mark n) k
+headed (Head.Prefix o) k = want (under o ∷ k)
+headed (Head.Open c) k = want (left c ∷ k)
 
-unfoldable pub go_on : Quantifier → Follow → List Frame → Option State
-go_on q (Follow.Prefix o) k = Some (want (under o ∷ k))
-go_on q Follow.Open k = Some (want (left (Bracket.Quantified q) ∷ k))
-go_on q Follow.Other k = None
+-- after a byte that begins a rule
+abbrev pub started : Start → List Frame → State
+started (Start.Piece h) k = headed h k
+started Start.Mark k = digit_wanted k
+started (Start.Letter q) k = letter q k
 
-unfoldable pub joined : Option Operator → Tree → List Frame → Option State
-joined (Some o) s k = Some (want (right o s ∷ k))
-joined None s k = None
+-- after the first digit of a mark: only a 1 may have another after it
+abbrev pub after_digit : ℕ → List Frame → State
+after_digit n k = cond (n == 1) (after_one k) (have (Tree.mark n) k)
 
--- a byte after a rule; a space is 32, and ) is 41
+-- a byte after a rule; a space is 32
 unfoldable pub after : Tree → List Frame → ℕ → Option State
-unfolding joined
 after s [] b = cond (b == 32) (Some (have s [])) None
 after s (under o ∷ k) b = after (Tree.unary o s) k b
-after s (left c ∷ k) b = cond (b == 32) (Some (have s (left c ∷ k))) (joined (joining c b) s k)
-after s (right o r ∷ k) b = cond (b == 32) (Some (have s (right o r ∷ k))) (cond (b == 41) (Some (have (Tree.binary o r s) k)) None)
+after s (left c ∷ k) b = cond (b == 32) (Some (have s (left c ∷ k))) (option_map (λ o. want (right o s ∷ k)) (joining c b))
+after s (right o r ∷ k) b = cond (b == 32) (Some (have s (right o r ∷ k))) (option_map (λ _. have (Tree.binary o r s) k) (closes b))
 
--- digits are 48 to 57
+-- a byte after p1
+unfoldable pub second : Option ℕ → List Frame → ℕ → Option State
+unfolding after
+second (Some n) k b = Some (have (Tree.mark (10 + n)) k)
+second None k b = after (Tree.mark 1) k b
+
 unfoldable pub step : State → ℕ → Option State
-unfolding begin go_on after
-step (want k) b = cond (b == 32) (Some (want k)) (begin (start_of b) k)
+unfolding after second
+step (want k) b = cond (b == 32) (Some (want k)) (option_map (λ x. started x k) (start_of b))
 step (have s k) b = after s k b
-step (digit_wanted k) b = cond (b == 49) (Some (after_one k)) (cond (nat_le 48 b && nat_le b 57) (Some (have (Tree.mark (b - 48)) k)) None)
-step (after_one k) b = cond (nat_le 48 b && nat_le b 53) (Some (have (Tree.mark (b - 38)) k)) (after (Tree.mark 1) k b)
-step (letter q k) b = go_on q (follow_of q b) k
+step (digit_wanted k) b = option_map (λ n. after_digit n k) (digit_of 9 b)
+step (after_one k) b = second (digit_of 5 b) k b
+step (letter q k) b = option_map (λ h. headed h k) (follow_of q b)
 
 -- the rule that was read, or how many bytes were left where no rule goes on
 pub data Outcome : Type 0 where

@@ -1,24 +1,27 @@
--- What the recursive reader does at a place of the text, and with the whole text.
-use Rattle.std.specs.Prelude.{◌≡◌, ℕ, ◌+◌, ◌-◌, ◌*◌, ◌≤◌, Bool, false, List, [], length, Ok, Err, Result}
-use Rattle.rules.specs.declared.pieces.Part.{Part}
-use Rattle.rules.specs.declared.clause_list.ClauseList.{ClauseList}
+-- What the recursive reader does with what is left of a text, and with a whole text.
+use Rattle.std.specs.Prelude.{◌≡◌, ℕ, ◌+◌, ◌*◌, ◌≤◌, Bool, false, List, [], length, Ok, Err, Result}
+use Rattle.rules.specs.declared.pieces.Stuck.{Stuck}
+use Rattle.rules.specs.declared.reader.Reader.{Reader}
 use Rattle.rules.specs.Trees.{Tree, nesting}
 use Rattle.rules.specs.Clauses.{size, numbered}
-use Rattle.rules.specs.reader.Machine.{want, have, accepted, stuck, outcome}
-use Rattle.rules.specs.reader.Scans.{Leads, Stops}
+use Rattle.rules.specs.reader.Machine.{Frame, want, have, accepted, stuck, outcome}
+use Rattle.rules.specs.reader.Scans.{Stops}
 use Rattle.rules.specs.reader.Filling.{polar, Adds}
 
--- a rule was read, and its clauses were added, at most two for a byte; or no rule goes on at a place
-abbrev pub ReadsPart : List ℕ → ℕ → Bool → ClauseList → ClauseList → Result Part ℕ → Type 0
-ReadsPart text at negated t u (Ok p) =
-    (s : Tree)
-    × Leads text at p.end want (have s)
-    × (p.nesting ≡ nesting s)
-    × Adds t u (numbered t.count (polar negated s))
-    × (size (polar negated s) + 2 * at ≤ 2 * p.end)
-    × (nesting s + at ≤ p.end)
-ReadsPart text at negated t u (Err end) = Stops text at end want
+-- a rule was read, and its clauses were added, at most two for a byte
+pub record PartRead (negated : Bool) (r q : Reader) (depth : ℕ) : Type 0 where
+  pub spelled : Tree
+  pub leads : (k : List Frame) → outcome (want k) r.rest ≡ outcome (have spelled k) q.rest
+  pub nested : depth ≡ nesting spelled
+  pub adds : Adds r.list q.list (numbered r.list.count (polar negated spelled))
+  pub few : size (polar negated spelled) + 2 * length q.rest ≤ 2 * length r.rest
+  pub shallow : nesting spelled + length q.rest ≤ length r.rest
 
-abbrev pub ReadsWhole : List ℕ → ClauseList → ClauseList → Result ℕ ℕ → Type 0
-ReadsWhole text t u (Ok depth) = (s : Tree) × (outcome (want []) text ≡ accepted s) × (depth ≡ nesting s) × Adds t u (numbered t.count (polar false s))
-ReadsWhole text t u (Err k) = (k ≤ length text) × (outcome (want []) text ≡ stuck (length text - k))
+-- or no rule goes on at a place
+abbrev pub ReadsPart : Bool → Reader → Reader → Result ℕ Stuck → Type 0
+ReadsPart negated r q (Ok depth) = PartRead negated r q depth
+ReadsPart negated r q (Err e) = Stops want r.rest e.left
+
+abbrev pub ReadsWhole : Reader → Reader → Result ℕ Stuck → Type 0
+ReadsWhole r q (Ok depth) = (s : Tree) × (outcome (want []) r.rest ≡ accepted s) × (depth ≡ nesting s) × Adds r.list q.list (numbered r.list.count (polar false s))
+ReadsWhole r q (Err e) = (e.left ≤ length r.rest) × (outcome (want []) r.rest ≡ stuck e.left)

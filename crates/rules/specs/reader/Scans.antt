@@ -1,46 +1,49 @@
--- What the parts of the reader find at a place of the text, told by the outcomes of the reader of single bytes.
-use Rattle.std.specs.Prelude.{◌≡◌, ℕ, ◌-◌, ◌<◌, ◌≤◌, false, List, ◌∷◌, length, drop, Ok, Err, Result, ◌==◌, slice_index}
+-- What the parts of the reader do with what is left of the text, told by the outcomes of the reader of single bytes.
+use Rattle.std.specs.Prelude.{◌≡◌, ℕ, ◌<◌, ◌≤◌, List, ◌∷◌, length, Some, None, Option, Ok, Err, Result, ◌==◌}
+use Rattle.std.specs.Fn.{Shared, FnReturns}
+use Rattle.std.specs.List.{prefix_len}
 use Rattle.rules.specs.declared.syntax.Operator.{Operator}
 use Rattle.rules.specs.declared.pieces.Bracket.{Bracket}
-use Rattle.rules.specs.declared.pieces.Head.{Head}
-use Rattle.rules.specs.declared.pieces.Found.{Found}
-use Rattle.rules.specs.declared.pieces.Joint.{Joint}
+use Rattle.rules.specs.declared.pieces.Stuck.{Stuck}
 use Rattle.rules.specs.Trees.{Tree}
-use Rattle.rules.specs.reader.Machine.{Frame, under, left, right, State, want, have, stuck, outcome}
+use Rattle.rules.specs.reader.Machine.{Frame, left, right, State, want, have, stuck, outcome}
 
--- a space changes nothing in this state
-abbrev pub Spacious : State → Type 0
-Spacious σ = (bs : List ℕ) → outcome σ (32 ∷ bs) ≡ outcome σ bs
+-- how many spaces the text begins with
+abbrev pub spaces : List ℕ → ℕ
+spaces text = prefix_len (λ b. b == 32) text
 
--- only spaces stand between the places, and none at the second
-abbrev pub Skips : List ℕ → ℕ → ℕ → Type 0
-Skips text at end = (at ≤ end) × (end ≤ length text) × ((slice_index text end == 32) ≡ false) × ((σ : State) → Spacious σ → outcome σ (drop at text) ≡ outcome σ (drop end text))
+-- the first byte was taken, and this is what the closure makes of it; or there is none, or it makes nothing of it
+abbrev pub Takes : {X F : Type 0} → Shared F (ℕ × Unit {0}) (Option X) → F → List ℕ → List ℕ → Result X Stuck → Type 0
+Takes g f old new (Ok x) = (b : ℕ) × (old ≡ b ∷ new) × FnReturns g f (b, tt) (Some x)
+Takes g f old new (Err e) = (new ≡ old) × (e.left ≡ length old) × ((b : ℕ) (bs : List ℕ) → old ≡ b ∷ bs → FnReturns g f (b, tt) None)
 
--- from one place and state the bytes lead to another, whatever is on the stack
-abbrev pub Leads : List ℕ → ℕ → ℕ → (List Frame → State) → (List Frame → State) → Type 0
-Leads text at end σ τ = (at ≤ end) × (end ≤ length text) × ((k : List Frame) → outcome (σ k) (drop at text) ≡ outcome (τ k) (drop end text))
+-- what was read leads from one state to another, whatever they stand in
+abbrev pub Goes : {K X : Type 0} → (K → State) → (X → K → State) → List ℕ → List ℕ → X → Type 0
+Goes σ τ old new x = (length new ≤ length old) × ((k : _) → outcome (σ k) old ≡ outcome (τ x k) new)
 
--- from a place and state the bytes go on up to another place
-abbrev pub Stops : List ℕ → ℕ → ℕ → (List Frame → State) → Type 0
-Stops text at end σ = (end ≤ length text) × ((k : List Frame) → outcome (σ k) (drop at text) ≡ stuck (length text - end))
+-- no rule goes on where so many bytes are left
+abbrev pub Stops : {K : Type 0} → (K → State) → List ℕ → ℕ → Type 0
+Stops σ old n = (n ≤ length old) × ((k : _) → outcome (σ k) old ≡ stuck n)
 
--- the state after the first piece of a rule
-abbrev pub headed : Head → List Frame → State
-headed (Head.Constant b) k = have (Tree.constant b) k
-headed (Head.Mark p) k = have (Tree.mark p) k
-headed (Head.Prefix o) k = want (under o ∷ k)
-headed (Head.Open c) k = want (left c ∷ k)
+-- a piece was read, or no rule goes on
+abbrev pub Reads : {K X : Type 0} → (K → State) → (X → K → State) → List ℕ → List ℕ → Result X Stuck → Type 0
+Reads σ τ old new (Ok x) = (length new < length old) × ((k : _) → outcome (σ k) old ≡ outcome (τ x k) new)
+Reads σ τ old new (Err e) = Stops σ old e.left
 
-abbrev pub Heads : List ℕ → ℕ → (List Frame → State) → Result Found ℕ → Type 0
-Heads text at σ (Ok f) = Leads text at f.end σ (headed f.head)
-Heads text at σ (Err end) = Stops text at end σ
+-- before and after the number of a mark
+abbrev pub marked : ℕ → List Frame → State
+marked n k = have (Tree.mark n) k
 
--- the operator between two rules
-abbrev pub Joins : List ℕ → ℕ → Bracket → Result Joint ℕ → Type 0
-Joins text at c (Ok f) = (at < f.end) × (f.end ≤ length text) × ((s : Tree) (k : List Frame) → outcome (have s (left c ∷ k)) (drop at text) ≡ outcome (want (right f.operator s ∷ k)) (drop f.end text))
-Joins text at c (Err end) = (end ≤ length text) × ((s : Tree) (k : List Frame) → outcome (have s (left c ∷ k)) (drop at text) ≡ stuck (length text - end))
+-- before and after the operator of two rules, the left of which has been read
+abbrev pub between_rules : Bracket → Tree × List Frame → State
+between_rules c k = have k.0 (left c ∷ k.1)
 
--- the bracket after two rules
-abbrev pub Closes : List ℕ → ℕ → Result ℕ ℕ → Type 0
-Closes text at (Ok end) = (at < end) × (end ≤ length text) × ((o : Operator) (r s : Tree) (k : List Frame) → outcome (have s (right o r ∷ k)) (drop at text) ≡ outcome (have (Tree.binary o r s) k) (drop end text))
-Closes text at (Err end) = (end ≤ length text) × ((o : Operator) (r s : Tree) (k : List Frame) → outcome (have s (right o r ∷ k)) (drop at text) ≡ stuck (length text - end))
+abbrev pub joined_by : Operator → Tree × List Frame → State
+joined_by o k = want (right o k.0 ∷ k.1)
+
+-- before and after the bracket that ends two rules: the operator and the left rule, and the right rule
+abbrev pub in_bracket : (Operator × Tree) × (Tree × List Frame) → State
+in_bracket k = have k.1.0 (right k.0.0 k.0.1 ∷ k.1.1)
+
+abbrev pub closed : Unit {0} → (Operator × Tree) × (Tree × List Frame) → State
+closed u k = have (Tree.binary k.0.0 k.0.1 k.1.0) k.1.1

@@ -31,15 +31,18 @@ impl Rule {
         self.count
     }
 
+    // The clauses, in their order; the last is the whole rule.
+    pub fn clauses(&self) -> &[Clause]
+        ensures { result.now ≡ clause_list self.now }
+    {
+        &self.clauses[..self.count]
+    }
+
     // The clause with a number; its parts are earlier clauses.
     pub fn clause(&self, number: usize) -> Option<Clause>
         ensures { result ≡ slice_get (clause_list self.now) number }
     {
-        if number < self.count {
-            Some(self.clauses[number])
-        } else {
-            None
-        }
+        self.clauses().get(number).copied()
     }
 
     // The nesting of the text that the rule was read from.
@@ -53,11 +56,9 @@ impl Rule {
     pub fn marks_below(&self, marks: usize) -> bool
         ensures { Decides result (AllByRecursion (MarkBelow marks) (clause_list self.now)) }
     {
-        let mut all = true;
-        for number in 0..self.count {
-            all = mark_below(self.clauses[number], marks) & all;
-        }
-        all
+        self.clauses()
+            .iter()
+            .all(|clause| mark_below(*clause, marks))
     }
 }
 

@@ -6,14 +6,16 @@ ghost use Rattle.rules.specs.Rules.{clause_list};
 ghost use Rattle.queue.specs.Held.{room};
 ghost use Rattle.law.specs.Calls.{Agrees, judge, look, cause};
 ghost use Rattle.study.specs.Studies.{below, ledger, positions_of, judge_reply, look_reply, cause_reply, Lent, SoughtIn, LentToCause};
+ghost use Rattle.study.specs.Written.{WrittenFor};
 
 use super::Study;
+use super::written::Written;
 use crate::slip::Slip;
 use colours::Position;
 use engine::{Link, colour, colour_at, count_positions, find_cause, verdict};
 use queue::Ring;
 use rules::Rule;
-use systems::{Colour, Refusal, System, Table};
+use systems::{Colour, Refusal, System};
 
 impl<S: System> Study<S> {
     // The rule, or `1` where it has a mark that the system does not have.
@@ -28,9 +30,18 @@ impl<S: System> Study<S> {
         }
     }
 
+    fn written(&self) -> Written
+        ensures { WrittenFor (below S.System.meaning self.now) (ledger S.System.meaning self.now) result }
+    {
+        Written {
+            table: self.grouping.write_out(),
+            rule: self.fitted_rule(),
+        }
+    }
+
     // Colours the first G × C bytes of a board, for G groups and C clauses of the rule; answers the verdict
-    // and the numbers of T, F and undecided positions. Refused where the board or the queue has fewer than
-    // G × C places (15).
+    // and the numbers of T, F and undecided positions, as the law lists them in a reply. Refused where the
+    // board or the queue has fewer than G × C places (15).
     pub fn judge(
         &self,
         board: &mut [u8],
@@ -39,8 +50,7 @@ impl<S: System> Study<S> {
         ensures agrees { Agrees (below S.System.meaning self.now) (ledger S.System.meaning self.now) (judge (length board.old) (room queue.old)) (judge_reply (positions_of S.System.meaning self.now) board.new result) (ledger S.System.meaning self.now) }
         ensures lent { Lent (positions_of S.System.meaning self.now) board.old queue.old board.new queue.new result }
     {
-        let table = self.grouping.write_out();
-        let rule = self.fitted_rule();
+        let Written { table, rule } = self.written();
         colour(&table, &rule, board, queue)?;
         let tally = count_positions(&table, &rule, board);
         Ok((
@@ -63,21 +73,16 @@ impl<S: System> Study<S> {
         ensures agrees { Agrees (below S.System.meaning self.now) (ledger S.System.meaning self.now) (look (length board.old) (room queue.old) state clause) (look_reply (positions_of S.System.meaning self.now) board.new result) (ledger S.System.meaning self.now) }
         ensures lent { Lent (positions_of S.System.meaning self.now) board.old queue.old board.new queue.new result }
     {
-        let table = self.grouping.write_out();
-        let rule = self.fitted_rule();
+        let written = self.written();
+        written.fits(&[board.len(), queue.capacity()])?;
+        let Written { table, rule } = written;
         let members = self.grouping.members();
-        let positions = table.states() * rule.count();
-        if board.len() < positions || queue.capacity() < positions {
-            return Err(Refusal::WorkspaceTooSmall);
-        }
         if state >= members.states() || clause >= rule.count() {
             return Err(Refusal::NoSuchPosition);
         }
         colour(&table, &rule, board, queue)?;
-        match colour_at(&table, &rule, board, members.group_of(state), clause) {
-            Some(shown) => Ok(shown),
-            None => unreachable(),
-        }
+        let shown = colour_at(&table, &rule, board, members.group_of(state), clause);
+        Ok(shown.unwrap())
     }
 
     // Colours like judge; hands out a slip, in which a chain from the lowest undecided start ends, and tells
@@ -94,19 +99,14 @@ impl<S: System> Study<S> {
         ensures lent { LentToCause (positions_of S.System.meaning self.now) board.old queue.old board.new queue.new result }
         ensures sought { SoughtIn links.old chain.old links.new chain.new result }
     {
-        let table = self.grouping.write_out();
-        let rule = self.fitted_rule();
-        let positions = table.states() * rule.count();
-        if links.capacity() < positions || chain.len() < positions {
-            return Err(Refusal::WorkspaceTooSmall);
-        }
+        let written = self.written();
+        written.fits(&[board.len(), queue.capacity(), links.capacity(), chain.len()])?;
+        let Written { table, rule } = written;
         colour(&table, &rule, board, queue)?;
         if verdict(&table, &rule, board) != Colour::Undecided {
             return Err(Refusal::VerdictDecided);
         }
-        match find_cause(&table, &rule, board, links, chain) {
-            Some((reason, length)) => Ok((Slip::of(reason), length)),
-            None => unreachable(),
-        }
+        let (reason, length) = find_cause(&table, &rule, board, links, chain).unwrap();
+        Ok((Slip::of(reason), length))
     }
 }

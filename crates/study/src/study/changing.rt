@@ -1,4 +1,5 @@
-// The calls that change a study, and making one.
+// The calls that change a study, and making one. Each says itself what it leaves: the system below, and
+// after a refusal the whole study. A caller knows of a call what its clauses say.
 ghost use Rattle.std.specs.Prelude.{◌≡◌};
 ghost use Rattle.groupings.specs.Grouped.{KeptIfRefused};
 ghost use Rattle.law.specs.Ledgers.{fresh};

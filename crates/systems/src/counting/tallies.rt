@@ -1,23 +1,31 @@
 // Counting by asking every question once for each kind of answer.
-ghost use Rattle.std.specs.Prelude.{◌≡◌, ◌*◌, ◌<◌, ◌≤◌, true};
-ghost use Rattle.systems.specs.Below.{count_below};
-ghost use Rattle.systems.specs.Counted.{is_step, is_mark, steps_of, marks_of, Counted};
+ghost use Rattle.std.specs.Prelude.{◌≡◌, ℕ, Bool, true, ◌≤◌};
+ghost use Rattle.systems.specs.Below.{count_below, count_cells};
+ghost use Rattle.systems.specs.Counted.{steps_of, marks_of, Counted};
 
 use super::Census;
-use crate::asking::{mark_of, start_of, step_of};
 use crate::interface::System;
 use crate::kinds::{Colour, Step};
 
-fn count_steps_from<S: System>(system: &S, kind: Step, state: usize) -> usize
-    requires { state < (S.meaning system.now).states }
-    ensures is { result ≡ count_below (is_step (S.meaning system.now) kind state) (S.meaning system.now).states }
-    ensures few { result ≤ 128 }
+// At how many numbers below n a test passes.
+fn count_below<F: Fn(usize) -> bool>(n: usize, test: F) -> usize
+    requires { F.IsAlwaysCallable test }
+    ensures is { (t : ℕ → Bool) → ((k : ℕ) (b : Bool) → F.post test k b → b ≡ t k) → result ≡ count_below t n }
+    ensures few { result ≤ n }
+{
+    (0..n).filter(|k| test(*k)).count()
+}
+
+// At how many cells of a table of at most 128 rows and columns a test passes. A `for` and no `sum`: that the
+// sum fits is shown turn by turn, since before a test is known no more is known of a row than its bound.
+fn count_cells<F: Fn(usize, usize) -> bool>(rows: usize, columns: usize, test: F) -> usize
+    requires callable { F.IsAlwaysCallable test }
+    requires small { (rows ≤ 128) × (columns ≤ 128) }
+    ensures { (t : ℕ → ℕ → Bool) → ((row column : ℕ) (b : Bool) → F.post test row column b → b ≡ t row column) → result ≡ count_cells t rows columns }
 {
     let mut count = 0;
-    for to in 0..system.states() {
-        if step_of(system, state, to).number() == kind.number() {
-            count += 1;
-        }
+    for line in 0..rows {
+        count += count_below(columns, |column| test(line, column));
     }
     count
 }
@@ -25,47 +33,22 @@ fn count_steps_from<S: System>(system: &S, kind: Step, state: usize) -> usize
 fn count_steps<S: System>(system: &S, kind: Step) -> usize
     ensures { result ≡ steps_of (S.meaning system.now) kind }
 {
-    let mut count = 0;
-    for state in 0..system.states() {
-        count += count_steps_from(system, kind, state);
-    }
-    count
-}
-
-fn count_marks_at<S: System>(system: &S, value: Colour, state: usize) -> usize
-    requires { state < (S.meaning system.now).states }
-    ensures is { result ≡ count_below (is_mark (S.meaning system.now) value state) (S.meaning system.now).marks }
-    ensures few { result ≤ 16 }
-{
-    let mut count = 0;
-    for mark in 0..system.marks() {
-        if mark_of(system, state, mark).number() == value.number() {
-            count += 1;
-        }
-    }
-    count
+    let states = system.states();
+    count_cells(
+        states,
+        states,
+        |from, to| system.step_or_absent(from, to) == kind,
+    )
 }
 
 fn count_marks<S: System>(system: &S, value: Colour) -> usize
     ensures { result ≡ marks_of (S.meaning system.now) value }
 {
-    let mut count = 0;
-    for state in 0..system.states() {
-        count += count_marks_at(system, value, state);
-    }
-    count
-}
-
-fn count_starts<S: System>(system: &S) -> usize
-    ensures { result ≡ count_below (S.meaning system.now).start (S.meaning system.now).states }
-{
-    let mut count = 0;
-    for state in 0..system.states() {
-        if start_of(system, state) {
-            count += 1;
-        }
-    }
-    count
+    count_cells(
+        system.states(),
+        system.marks(),
+        |state, mark| system.mark_or_unknown(state, mark) == value,
+    )
 }
 
 // Whether nothing is unknown, by the counts of what is.
@@ -86,7 +69,7 @@ impl Census {
         Census {
             states: system.states(),
             marks: system.marks(),
-            starts: count_starts(system),
+            starts: count_below(system.states(), |state| system.is_start(state)),
             steps_sure: count_steps(system, Step::Sure),
             steps_unsure,
             steps_absent: count_steps(system, Step::Absent),

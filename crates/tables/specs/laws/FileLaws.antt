@@ -1,14 +1,17 @@
--- A file that meets the conditions on its bodies keeps the laws of a system.
-use Rattle.std.specs.Prelude.{◌≡◌, ℕ, ◌+◌, ◌*◌, ◌<◌, true, List, refl}
-use Rattle.std.proofs.Common.{arith, subst, ⊎_elim}
+-- A file that meets the conditions on its bytes keeps the laws of a system.
+use Rattle.std.specs.Prelude.{◌≡◌, ℕ, ◌+◌, ◌-◌, ◌*◌, ◌<◌, ◌==◌, Bool, true, List, length, drop, refl, nat_lt}
+use Rattle.std.specs.List.{between, list_any}
+use Rattle.std.proofs.Common.{arith, sym, ◌∙◌, subst, ⊎_elim, get_or-drop, get_or-take}
+use Rattle.std.proofs.lemmas.List.{get_or_default, length-take}
+use Rattle.std.proofs.lemmas.List.Folds.{Any-from_list_any}
+use Rattle.std.proofs.lemmas.List.Sums.{AllPass-from_list_all}
 use Rattle.std.proofs.lemmas.Nat.{mul-add-lt}
 use Rattle.std.proofs.lemmas.Bool.{ltb-true, cases_eq}
 use Rattle.systems.specs.Model.{Lawful}
 use Rattle.systems.specs.Numbers.{is_possible}
 use Rattle.systems.specs.Tabled.{InRange}
-use Rattle.systems.specs.laws.TableLaws.{all_at, any_at, possible_from}
-use Rattle.tables.specs.Bodies.{LawfulBodies}
-use Rattle.tables.specs.Conditions.{filled, goes, is_start, listed}
+use Rattle.systems.specs.laws.TableLaws.{all_at, possible_from}
+use Rattle.tables.specs.Conditions.{LawfulBodies, goes}
 use Rattle.tables.specs.Files.{byte, cell, step_of, body_model}
 
 -- bytes 1 and 2 stand for possible steps
@@ -19,24 +22,33 @@ possible_byte b low high =
     (λ (n : b ≡ 1 → ⊥). let e : b ≡ 2 = omega arith in rw e refl)
     (cases_eq b 1)
 
-module _ (bytes : List ℕ) (n p steps marks starts : ℕ) (bodies : LawfulBodies bytes n p steps marks starts) where
-  cell_listed : (s t : ℕ) → s < n → t < n → cell bytes steps n s t < 3
-  cell_listed s t ls lt =
-      let k = s * n + t in
-      let low : k < n * n = mul-add-lt s n t n ls lt in
-      let here : byte bytes (steps + k) < 3 = ltb-true _ _ (all_at (listed bytes steps 3) (n * n) k bodies.0 low) in
-      let same : steps + k ≡ steps + s * n + t = omega arith in
-      subst (λ (x : ℕ). byte bytes x < 3) same here
+-- where a byte passes a test
+found : (test : ℕ → Bool) (body : List ℕ) → list_any test body ≡ true → (k : ℕ) × (k < length body) × (test (byte body k) ≡ true)
+found test body e =
+    let hit = Any-from_list_any test body e in
+    (hit.0, hit.2, subst (λ b. test b ≡ true) (sym hit.3 ∙ get_or_default body hit.0 hit.1 0 hit.2) hit.4)
 
-  pub file_lawful : InRange n p → Lawful (body_model bytes n p steps marks starts)
-  file_lawful range = record {
+module _ (n p : ℕ) (steps marks starts : List ℕ) (bodies : LawfulBodies n steps starts) (square : length steps ≡ n * n) where
+  cell_listed : (s t : ℕ) → s < n → t < n → cell steps n s t < 3
+  cell_listed s t ls lt = ltb-true _ _ (AllPass-from_list_all (λ b. nat_lt b 3) steps bodies.0 (s * n + t) 0 (omega (arith, mul-add-lt s n t n ls lt)))
+
+  -- the column of a step from a state
+  column : (s : ℕ) → s < n → (t : ℕ) × (t < n) × (0 < cell steps n s t)
+  column s l =
+      let row = between (s * n) (s * n + n) steps in
+      let on = found (λ b. nat_lt 0 b) row (all_at (goes steps n) n s bodies.1 l) in
+      let low : on.0 < n = omega (arith, length-take (s * n + n - s * n) (drop (s * n) steps)) in
+      let same : byte row on.0 ≡ cell steps n s on.0 = get_or-take (s * n + n - s * n) (drop (s * n) steps) on.0 0 (omega arith) ∙ get_or-drop (s * n) steps on.0 0 in
+      (on.0, low, subst (λ b. 0 < b) same (ltb-true _ _ on.2))
+
+  pub file_lawful : length starts ≡ n → InRange n p → Lawful (body_model n p steps marks starts)
+  file_lawful whole range = record {
     states_some = range.0;
     states_few = range.1;
     marks_some = range.2;
     marks_few = range.3;
     goes_on = λ s l.
-        let row = any_at (filled bytes steps n s) n (all_at (goes bytes steps n) n s bodies.1 l) in
-        let there = cell bytes steps n s row.0 in
-        (row.0, (l, row.1, possible_from (step_of there) (possible_byte there (ltb-true _ _ row.2) (cell_listed s row.0 l row.1))));
-    starts = let first = any_at (is_start bytes starts) n bodies.2 in (first.0, (first.1, first.2));
+        let t = column s l in
+        (t.0, (l, t.1, possible_from (step_of (cell steps n s t.0)) (possible_byte (cell steps n s t.0) t.2 (cell_listed s t.0 l t.1))));
+    starts = let first = found (λ b. b == 1) starts bodies.2 in (first.0, (omega arith, first.2));
   }

@@ -1,62 +1,54 @@
-use Rattle.std.proofs.Common.{length, ap, ◌∙◌, arith}
+use Rattle.std.proofs.Common.{◌≡◌, ℕ, length, get_or, replicate, map, zero, suc, refl, ap, subst, rules, arith, List, []}
 use Rattle.colours.specs.Values.{negate}
 use Rattle.queue.specs.Held.{held}
-use Rattle.systems.specs.Written.{table_model}
-use Rattle.colouring.specs.passes.Columns.{column}
+use Rattle.colouring.specs.declared.columns.Columns.{Columns}
+use Rattle.colouring.specs.declared.notes.Note.{Note}
+use Rattle.colouring.specs.passes.Columns.{model, column, Fits, Written}
+use Rattle.colouring.specs.passes.Falling.{witnesses, trials, Falling, Fallen}
 use Rattle.colouring.proofs.Placing.{fits_same}
 use Rattle.colouring.proofs.Heights.{height_most}
-use Rattle.colouring.proofs.Falls.{falling_begun, falling_rest}
+use Rattle.colouring.proofs.Falls.{falling_begun}
+use Rattle.colouring.proofs.Descents.{blank}
 use Rattle.colouring.proofs.fall.fall.Goals as goal
+
+zeros : (f : Note → ℕ) → f blank ≡ 0 → (n s : ℕ) → get_or (map f (replicate n blank)) s 0 ≡ 0
+zeros f e zero s = refl
+zeros f e (suc n) zero = e
+zeros f e (suc n) (suc s) = zeros f e n s
+
+begun : (p : Columns) (b₀ b h : List ℕ) → Fits p b₀ → h ≡ [] → Written p b₀ b (column p b₀ p.right)
+    → Falling p (model p) b₀ b h (witnesses (replicate 128 blank)) (trials (replicate 128 blank)) 0 0
+begun p b₀ b h fit none written =
+    let few = p.table.now.ranged.1 in
+    falling_begun p (model p) b₀ fit.order p.every_state b h (witnesses (replicate 128 blank)) (trials (replicate 128 blank)) none (few, few)
+    (zeros (λ n. n.witness) refl 128, zeros (λ n. n.tried) refl 128) written
+
+pub invariant_of-fall : goal.invariant_of-fall
+invariant_of-fall c =
+    let p = c.args.columns.now in
+    let most = height_most p.states (λ s. negate (column p c.copy_right.new.board p.whole s)) in
+    let none = ap length c.clear.ensures.empty in
+    record {
+      fits = fits_same p c.args.board.now c.copy_right.new.board (omega arith) c.requires.fits;
+      place = omega (arith, c.requires.place, c.clear.ensures.room);
+    }
 
 pub look_again-requires : goal.look_again-requires
 look_again-requires c =
-    let p = c.args.columns in
-    let b₀ = c.args.board.now in
-    let n = c.fresh-notes in
-    let few = c.args.table.now.ranged.1 in
-    let most = height_most p.states (λ s. negate (column p c.copy_right.new.board p.whole s)) in
-    let none = ap length c.clear.ensures.empty in
-    record {
-      fits = fits_same p b₀ c.copy_right.new.board (omega arith) c.requires.fits;
-      states = c.requires.states;
-      place = omega (arith, c.requires.place, c.clear.ensures.room);
-      begun = (
-        b₀,
-        falling_begun p (table_model c.args.table.now) b₀ c.requires.fits.order c.requires.states c.copy_right.new.board (held c.clear.new.self) n.result.witness n.result.tried
-            c.clear.ensures.empty (omega (arith, few, n.ensures.long.0), omega (arith, few, n.ensures.long.1)) n.ensures.zero c.copy_right.ensures,
-      );
-    }
+    (c.args.board.now, begun c.args.columns.now c.args.board.now c.copy_right.new.board (held c.clear.new.self) c.requires.fits c.clear.ensures.empty c.copy_right.ensures)
 
 pub settle-requires : goal.settle-requires
-settle-requires c =
-    let p = c.args.columns in
-    let b₀ = c.args.board.now in
-    let n = c.fresh-notes in
-    let few = c.args.table.now.ranged.1 in
-    let begun = falling_begun p (table_model c.args.table.now) b₀ c.requires.fits.order c.requires.states c.copy_right.new.board (held c.clear.new.self) n.result.witness n.result.tried
-    c.clear.ensures.empty (omega (arith, few, n.ensures.long.0), omega (arith, few, n.ensures.long.1)) n.ensures.zero c.copy_right.ensures in
-    let most = height_most p.states (λ s. negate (column p c.copy_right.new.board p.whole s)) in
-    let none = ap length c.clear.ensures.empty in
-    record {
-      fits = fits_same p b₀ c.look_again.new.board (omega arith) c.requires.fits;
-      states = c.requires.states;
-      place = omega (arith, c.requires.place, c.clear.ensures.room, c.look_again.ensures.sum, c.look_again.ensures.room);
-      begun = (b₀, c.look_again.ensures.kept b₀ begun);
-    }
+settle-requires c = (
+  c.args.board.now,
+  c.look_again.ensures.kept c.args.board.now
+      (begun c.args.columns.now c.args.board.now c.copy_right.new.board (held c.clear.new.self) c.requires.fits c.clear.ensures.empty c.copy_right.ensures),
+)
 
-pub returns : goal.returns
-returns c =
-    let p = c.args.columns in
-    let M = table_model c.args.table.now in
+pub returns-clause-fallen : goal.returns-clause-fallen
+returns-clause-fallen c =
+    let p = c.args.columns.now in
     let b₀ = c.args.board.now in
-    let n = c.fresh-notes in
-    let few = c.args.table.now.ranged.1 in
-    let begun = falling_begun p M b₀ c.requires.fits.order c.requires.states c.copy_right.new.board (held c.clear.new.self) n.result.witness n.result.tried
-    c.clear.ensures.empty (omega (arith, few, n.ensures.long.0), omega (arith, few, n.ensures.long.1)) n.ensures.zero c.copy_right.ensures in
-    let end = c.settle.ensures.kept b₀ (c.look_again.ensures.kept b₀ begun) in
-    record {
-      release = falling_rest p M b₀ c.requires.fits.order c.requires.states c.settle.new.board c.settle.new.notes.witness c.settle.new.notes.tried end;
-      clean = end.clean;
-      only = end.only;
-      room = c.settle.ensures.room ∙ c.look_again.ensures.room ∙ c.clear.ensures.room;
-    }
+    let start = begun p b₀ c.copy_right.new.board (held c.clear.new.self) c.requires.fits c.clear.ensures.empty c.copy_right.ensures in
+    let fallen : Fallen p b₀ c.settle.new.self.board.now =
+    subst (λ p. Fallen p b₀ c.settle.new.self.board.now) c.look_again.ensures.same.columns (c.settle.ensures.fallen b₀ (c.look_again.ensures.kept b₀ start)) in
+    search rules

@@ -1,33 +1,17 @@
-use Rattle.std.proofs.Common.{◌≡◌, ℕ, ◌+◌, refl, ap, ◌∙◌, ap₂, add-one, arith}
-use Rattle.colours.specs.Values.{join, meet, rated, join_below}
-use Rattle.systems.specs.declared.kinds.Colour.{Colour}
+use Rattle.std.proofs.Common.{ℕ, refl, ap, ◌∙◌, rules, arith}
+use Rattle.std.proofs.lemmas.Iterator.{YieldsList-from_range, YieldsList-from_map}
+use Rattle.std.proofs.lemmas.Iterator.Consumers.{fold_from_yields_List, YieldsList-at}
 use Rattle.systems.specs.declared.kinds.Colour.TheVariants.{F}
-use Rattle.systems.specs.Written.{table_model}
-use Rattle.colouring.specs.passes.Columns.{column}
-use Rattle.colouring.proofs.Placing.{cell_low}
+use Rattle.colours.specs.Values.{join, meet, rated, join_below}
+use Rattle.colouring.specs.passes.Columns.{model, column}
+use Rattle.colouring.proofs.Folds.{join_over}
 use Rattle.colouring.proofs.plain.ahead.Goals as goal
-
-join_none : (f : ℕ → Colour) → F ≡ join_below 0 f
-unfolding join_below
-join_none f = refl
-
-join_more : (n : ℕ) (f : ℕ → Colour) → join (join_below n f) (f n) ≡ join_below (n + 1) f
-unfolding join_below
-join_more n f = rw add-one
-
-pub loop-t-init : goal.loop-t-init
-loop-t-init c = join_none _
-
-pub read-there-requires : goal.read-there-requires
-read-there-requires c = cell_low c.args.columns c.args.board.now c.requires.fits _ _ (omega (arith, c.requires.fits.order.whole, c.requires.fits.order.left)) (omega arith)
-
-pub loop-t-preserved : goal.loop-t-preserved
-loop-t-preserved c =
-    c.join-sum.ensures
-    ∙ ap₂ join c.loop-t.invariant (c.meet-across.ensures ∙ ap₂ meet (c.rated-step.ensures ∙ ap rated c.step_of.ensures) c.read-there.ensures)
-    ∙ join_more c.loop-t.t _
 
 pub returns : goal.returns
 returns c =
-    let e : c.loop-t.t ≡ c.args.table.now.states = omega (arith, c.requires.states) in
-    c.loop-t.invariant ∙ ap (λ n. join_below n (λ u. meet (rated ((table_model c.args.table.now).step c.args.s u)) (column c.args.columns c.args.board.now c.args.columns.left u))) e
+    let p = c.args.columns.now in
+    let f = λ (t : ℕ). meet (rated ((model p).step c.args.s t)) (column p c.args.board.now p.left t) in
+    fold_from_yields_List _ join F c.fold.result c.fold.ensures.ran
+    (YieldsList-from_map _ f (YieldsList-at c.map.ensures.source (YieldsList-from_range 0 p.states p.states refl (omega arith))) c.map.ensures.closure (λ x r q k. search rules))
+    (λ a x z q k. search rules)
+    ∙ join_over f p.states ∙ ap (λ n. join_below n f) p.every_state

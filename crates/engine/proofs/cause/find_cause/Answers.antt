@@ -1,47 +1,29 @@
-use Rattle.std.proofs.Common.{◌-◌, ◌*◌, length, Some, None, sym, refl, ◌∙◌, subst, ap₂, arith}
-use mathlib.Core.Bool.{false≢true}
+use Rattle.std.proofs.Common.{◌*◌, rules, length, ap₂, arith}
 use Rattle.systems.specs.Written.{table_model}
 use Rattle.rules.specs.Rules.{clause_list}
-use Rattle.engine.specs.Causes.{WorkspacesFit}
-use Rattle.engine.specs.search.Starts.{LowestShown, ChainFound}
 use Rattle.queue.specs.Held.{room}
-use Rattle.engine.proofs.Starting.{cause_made, open_shown}
+use Rattle.engine.specs.Causes.{WorkspacesFit}
+use Rattle.engine.proofs.Starting.{sought_none, sought_found}
 use Rattle.engine.proofs.cause.find_cause.Goals as goal
 
-pub returns-in-Some : goal.returns-in-Some
-returns-in-Some c =
+pub returns-in_err-start : goal.returns-in_err-start
+returns-in_err-start c =
+    rw c.from_residual.ensures (sought_none (table_model c.args.table.now) (clause_list c.args.rule.now) c.args.board.now
+    (omega (arith, c.count.ensures.is, c.count.ensures.some)) c.args.links.now c.args.chain.now c.in_err-start.ensures)
+
+pub returns : goal.returns
+returns c =
     let M = table_model c.args.table.now in
     let cs = clause_list c.args.rule.now in
     let board = c.args.board.now in
-    let g = c.in-Some.group in
-    let C-is = c.count-clauses.ensures.is in
-    let all = ap₂ (λ x y. x * y) c.states.ensures C-is in
-    let low = subst (λ x. LowestShown M x board (Some g)) C-is c.in-Some.ensures in
-    let fits : WorkspacesFit M cs (length board) (room c.args.links.now) (length c.args.chain.now) = record {
+    let links = c.args.links.now in
+    let chain = c.args.chain.now in
+    let n = c.chain_from.new.self in
+    let all = ap₂ (λ x y. x * y) c.states.ensures c.count.ensures.is in
+    let fits : WorkspacesFit M cs (length board) (room links) (length chain) = record {
       board_fits = omega (arith, all, c.if-board-positions.false);
       links_fit = omega (arith, all, c.if-capacity-positions.false, c.capacity.ensures);
       chain_fits = omega (arith, all, c.if-chain-positions.false);
     } in
-    record {
-      small = λ n. absurd (n fits);
-      decided = λ none. absurd (false≢true (sym (none g low.0) ∙ low.1));
-      found = λ f coloured h s u. cause_made M cs board (omega (arith, C-is, c.count-clauses.ensures.some)) coloured g low c.chain_from.new.chain
-          c.chain_from.result
-          (subst (λ x. ChainFound M cs board (record { group = g; clause = x - 1 }) c.chain_from.new.chain c.chain_from.result) C-is
-          c.chain_from.ensures.found);
-      room_kept = c.chain_from.ensures.room;
-    }
-
-pub returns-in-None : goal.returns-in-None
-returns-in-None c =
-    let M = table_model c.args.table.now in
-    let cs = clause_list c.args.rule.now in
-    let board = c.args.board.now in
-    let C-is = c.count-clauses.ensures.is in
-    let none = subst (λ x. LowestShown M x board None) C-is c.in-None.ensures in
-    record {
-      small = λ n. record { none = refl; same_links = refl; same_chain = refl };
-      decided = λ n. record { none = refl; same_links = refl; same_chain = refl };
-      found = λ f coloured h s u. false≢true (sym (none h s.0) ∙ open_shown M cs board (omega (arith, C-is, c.count-clauses.ensures.some)) coloured h s u);
-      room_kept = refl;
-    }
+    sought_found M cs board (omega (arith, c.count.ensures.is, c.count.ensures.some)) links chain fits c.in_ok-start.start c.in_ok-start.ensures
+    n.links.now n.chain.now c.chain_from.result c.chain_from.ensures.found c.chain_from.ensures.keeps.room _ _ (search rules) (search rules)

@@ -1,9 +1,7 @@
-use Rattle.std.proofs.Common.{length}
-use Rattle.systems.proofs.Loops.{all_more}
-use Rattle.groupings.specs.Members.{is_used}
+use Rattle.std.proofs.Common.{rules, ◌==◌, tests}
+use Rattle.std.specs.List.{list_any}
+use Rattle.systems.proofs.Ranges.{all_in_range}
 use Rattle.groupings.proofs.members.listing.all_used.Goals as goal
 
-pub loop-group-preserved : goal.loop-group-preserved
-loop-group-preserved c =
-    let bytes = c.args.bytes.now in
-    all_more (is_used bytes (length bytes)) c.loop-group.group _ c.loop-group.all c.is_used-all.ensures c.loop-group.invariant
+pub returns : goal.returns
+returns c = all_in_range (λ g. list_any (λ b. b == g) c.args.bytes.now) c.args.groups _ _ _ c.all.ensures.ran (cc) (λ x b q k. search (rules, tests))

@@ -1,22 +1,12 @@
-use Rattle.std.proofs.Common.{ap, ◌∙◌, arith}
-use Rattle.std.proofs.lemmas.List.{take_all}
-use Rattle.groupings.specs.Members.{largest}
-use Rattle.groupings.proofs.Lists.{largest_more}
-use Rattle.groupings.proofs.members.listing.largest.Goals.{then-top-byte, else-top-byte}
+use Rattle.std.proofs.lemmas.Iterator.{YieldsList-from_slice}
+use Rattle.std.proofs.lemmas.Iterator.Adapters.{option_map_id}
+use Rattle.std.proofs.lemmas.Iterator.Consumers.{max_from_yields_List, YieldsList-from_copied}
+use Rattle.groupings.proofs.Lists.{largest_is}
 use Rattle.groupings.proofs.members.listing.largest.Goals as goal
 
-pub loop-k-preserved : goal.loop-k-preserved
-loop-k-preserved c =
-    let bytes = c.args.bytes.now in
-    let more = largest_more bytes c.loop-k.k (omega arith) in
-    let small = c.type_inv.bytes c.loop-k.k in
-    elim c.if-top-byte.branch [
-      | then-top-byte w ↦ (omega arith, omega arith)
-      | else-top-byte w ↦ (omega arith, omega arith)
-    ]
-
 pub returns : goal.returns
-returns c = record {
-  is = c.loop-k.invariant.0 ∙ ap largest (take_all c.loop-k.k c.args.bytes.now (omega arith));
-  byte = c.loop-k.invariant.1;
-}
+returns c =
+    let best = max_from_yields_List _ c.max.result c.max.ensures.ran (YieldsList-from_copied (YieldsList-from_slice c.args.bytes.now cc)) in
+    let whole = largest_is c.args.bytes.now in
+    let id = option_map_id c.max.result in
+    cc

@@ -1,5 +1,9 @@
-use Rattle.std.proofs.Common.{sym, ◌∙◌}
+use Rattle.std.proofs.Common.{rules, sym, ◌∙◌}
+use borrow.Author.Tests.{tests}
+use Rattle.systems.specs.Model.{is_start}
+use Rattle.systems.proofs.Questions.{start_in_range}
 use Rattle.systems.proofs.Exactness.{exact_from, no_unsure, no_unknown}
+use Rattle.systems.proofs.Ranges.{count_alike}
 use Rattle.systems.proofs.counting.Census.of.Goals as goal
 
 pub returns : goal.returns
@@ -10,7 +14,10 @@ returns g c =
     record {
       states = c.states.ensures;
       marks = c.marks.ensures;
-      starts = c.count_starts.ensures;
+      starts =
+          let counted = c.count_below.ensures.is (is_start m) (λ s b p. search (rules, tests)) in
+          let same = count_alike (is_start m) m.start m.states (λ s l. start_in_range m s l) in
+          cc;
       sure = c.count_steps.ensures;
       unsure = unsure.ensures;
       absent = c.count_steps-2.ensures;

@@ -1,9 +1,18 @@
+use Rattle.std.proofs.Common.{rules, ap, ℕ}
+use Rattle.std.specs.Prelude.{◌==◌}
+use borrow.Author.Tests.{tests}
 use Rattle.systems.specs.Counted.{is_step}
-use Rattle.systems.proofs.Counts.{add_row}
+use Rattle.systems.specs.Model.{step_or_absent}
+use Rattle.systems.specs.Numbers.{step_number}
+use Rattle.systems.specs.declared.kinds.Step.{Step}
+use Rattle.systems.proofs.Questions.{step_in_range}
+use Rattle.systems.proofs.Counts.{cells_alike}
 use Rattle.systems.proofs.counting.tallies.count_steps.Goals as goal
 
-pub loop-state-preserved : goal.loop-state-preserved
-loop-state-preserved g c =
+pub returns : goal.returns
+returns g c =
     let m = g.S.System.meaning c.args.system.now in
-    add_row (is_step m c.args.kind) m.states 128 c.loop-state.state c.loop-state.count c.count_steps_from-count.result
-    c.count_steps_from-count.ensures.few c.count_steps_from-count.ensures.is c.loop-state.invariant
+    let asked = λ (s t : ℕ). step_number (step_or_absent m s t) == step_number c.args.kind in
+    let counted = c.count_cells.ensures asked (λ s t b p. search (rules, tests)) in
+    let same = cells_alike asked (is_step m c.args.kind) m.states m.states (λ s t l k. ap (λ (x : Step). step_number x == step_number c.args.kind) (step_in_range m s l t k)) in
+    cc

@@ -1,7 +1,8 @@
-use Rattle.std.proofs.Common.{refl}
+use Rattle.std.proofs.Common.{rules}
+use borrow.Author.Tests.{tests}
 use Rattle.systems.specs.Tabled.{start_at}
-use Rattle.systems.proofs.Loops.{any_more}
+use Rattle.systems.proofs.Ranges.{any_in_range}
 use Rattle.systems.proofs.tabled.making.any_start.Goals as goal
 
-pub loop-state-preserved : goal.loop-state-preserved
-loop-state-preserved c = any_more (start_at c.args.starts.now) c.loop-state.state _ c.loop-state.found refl c.loop-state.invariant
+pub returns : goal.returns
+returns c = any_in_range (start_at c.args.starts.now) c.args.states _ _ _ c.any.ensures.ran (cc) (λ x b q k. search (rules, tests))

@@ -1,6 +1,8 @@
+use Rattle.std.proofs.Common.{rules}
+use borrow.Author.Tests.{tests}
 use Rattle.systems.specs.Tabled.{leads}
-use Rattle.systems.proofs.Loops.{any_more}
+use Rattle.systems.proofs.Ranges.{any_in_range}
 use Rattle.systems.proofs.tabled.making.goes_on.Goals as goal
 
-pub loop-to-preserved : goal.loop-to-preserved
-loop-to-preserved c = any_more (leads c.args.steps.now c.args.state) c.loop-to.to _ c.loop-to.found c.is_possible-found.ensures c.loop-to.invariant
+pub returns : goal.returns
+returns c = any_in_range (leads c.args.steps.now c.args.state) c.args.states _ _ _ c.any.ensures.ran (cc) (λ x b q k. search (rules, tests))

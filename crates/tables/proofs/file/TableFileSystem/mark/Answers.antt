@@ -4,5 +4,5 @@ use Rattle.tables.proofs.file.TableFileSystem.mark.Goals as goal
 
 pub byte_at-requires : goal.byte_at-requires
 byte_at-requires c =
-    let f = c.args.self.now in
-    omega (arith, f.inside.1, mul-add-lt c.args.state f.marks c.args.mark f.states (omega arith) (omega arith))
+    let f = c.args.self.now.bodies in
+    omega (arith, f.values_fill, mul-add-lt c.args.state f.marks c.args.mark f.states (omega arith) (omega arith))

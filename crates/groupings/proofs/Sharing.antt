@@ -1,0 +1,276 @@
+-- What the members of a group have in common is what the group is said to be.
+use Rattle.std.proofs.Common.{◌≡◌, ℕ, ◌<◌, Bool, true, false, cond, ◌&&◌, ◌||◌, eqb, List, [], ◌∷◌, map, filter, replicate, get_or, unwrap_or, sym, refl, ap, ◌∙◌, arith, zero, suc, ◌+◌, ◌*◌, ◌++◌, length, set, Some, None, Option, add-one, get_or-set_other, get_or-set_same}
+use native.Mathlib.Decide.{ℕ_discrete}
+use Rattle.std.specs.List.{fold, flat_map, reduce, list_all, list_any, range_with_len}
+use Rattle.std.proofs.Math.Bool.{and_assoc}
+use Rattle.std.proofs.Math.Nat.{zero-mul, suc-mul}
+use Rattle.std.proofs.lemmas.Bool.{both_ways, and_parts, eq-eqb, ne_eqb, cond-true, cond-false}
+use Rattle.std.proofs.lemmas.List.{get_or-replicate, length-replicate, get_or_append_left, get_or-append-add}
+use Rattle.std.proofs.lemmas.List.FromFn.{get_or-map-range_with_len, length-map-range_with_len}
+use Rattle.systems.specs.Below.{all_below}
+use Rattle.systems.specs.Model.{Model, mark_or_unknown, is_start}
+use Rattle.systems.specs.declared.kinds.Step.{Step}
+use Rattle.systems.specs.declared.kinds.Step.TheVariants.{Absent, Unsure, Sure}
+use Rattle.systems.specs.declared.kinds.Colour.{Colour}
+use Rattle.systems.specs.declared.kinds.Colour.TheVariants.{Undecided, F, T}
+use Rattle.systems.proofs.Questions.{mark_in_range, start_in_range}
+use Rattle.systems.proofs.Ranges.{all_over, all_alike, any_over, any_alike}
+use Rattle.colours.specs.Groupings.{is_sure, is_absent, is_true, is_false, strength, group_step, group_mark, group_start, start_in}
+use Rattle.groupings.specs.Joined.{joined_step, joined_mark, joined_row, joined_with, shared, asked}
+use Rattle.groupings.proofs.Strengths.{strength_known}
+
+-- an answer that all members must give for it to be the group's: one of two, else a third
+pub record Kind (X : Type 0) : Type 0 where
+  pub is_one : X → Bool
+  pub is_other : X → Bool
+  pub one : X
+  pub other : X
+  pub mixed : X
+  pub one_of : (p q : Bool) → is_one (cond p one (cond q other mixed)) ≡ p
+  pub other_of : (p q : Bool) → (p ≡ true → q ≡ true → ⊥) → is_other (cond p one (cond q other mixed)) ≡ q
+  pub apart : (x : X) → is_one x ≡ true → is_other x ≡ true → ⊥
+  pub alone : (x : X) → cond (is_one x) one (cond (is_other x) other mixed) ≡ x
+
+-- for steps, and for marks
+pub sure_of : (p q : Bool) → is_sure (cond p Sure (cond q Absent Unsure)) ≡ p
+sure_of true q = refl
+sure_of false true = refl
+sure_of false false = refl
+
+pub absent_of : (p q : Bool) → (p ≡ true → q ≡ true → ⊥) → is_absent (cond p Sure (cond q Absent Unsure)) ≡ q
+absent_of true true n = absurd (n refl refl)
+absent_of true false n = refl
+absent_of false true n = refl
+absent_of false false n = refl
+
+pub sure_or_absent : (k : Step) → is_sure k ≡ true → is_absent k ≡ true → ⊥
+sure_or_absent Absent a b = both_ways true (sym a) refl
+sure_or_absent Unsure a b = both_ways true (sym a) refl
+sure_or_absent Sure a b = both_ways true (sym b) refl
+
+pub step_alone : (k : Step) → cond (is_sure k) Sure (cond (is_absent k) Absent Unsure) ≡ k
+step_alone Absent = refl
+step_alone Unsure = refl
+step_alone Sure = refl
+
+abbrev pub steps : Kind Step
+steps = record { is_one = is_sure; is_other = is_absent; one = Sure; other = Absent; mixed = Unsure; one_of = sure_of; other_of = absent_of; apart = sure_or_absent; alone = step_alone }
+
+pub true_of : (p q : Bool) → is_true (cond p T (cond q F Undecided)) ≡ p
+true_of true q = refl
+true_of false true = refl
+true_of false false = refl
+
+pub false_of : (p q : Bool) → (p ≡ true → q ≡ true → ⊥) → is_false (cond p T (cond q F Undecided)) ≡ q
+false_of true true n = absurd (n refl refl)
+false_of true false n = refl
+false_of false true n = refl
+false_of false false n = refl
+
+pub true_or_false : (v : Colour) → is_true v ≡ true → is_false v ≡ true → ⊥
+true_or_false Undecided a b = both_ways true (sym a) refl
+true_or_false F a b = both_ways true (sym a) refl
+true_or_false T a b = both_ways true (sym b) refl
+
+pub mark_alone : (v : Colour) → cond (is_true v) T (cond (is_false v) F Undecided) ≡ v
+mark_alone Undecided = refl
+mark_alone F = refl
+mark_alone T = refl
+
+abbrev pub marks : Kind Colour
+marks = record { is_one = is_true; is_other = is_false; one = T; other = F; mixed = Undecided; one_of = true_of; other_of = false_of; apart = true_or_false; alone = mark_alone }
+
+and_true : (b : Bool) → b ≡ (b && true)
+and_true true = refl
+and_true false = refl
+
+-- all elements of a list that are answers of members
+all_kept : {X : Type 0} (test : X → Bool) (member : ℕ → Bool) (f : ℕ → X) (ss : List ℕ) → list_all test (map f (filter member ss)) ≡ list_all (λ s. cond (member s) (test (f s)) true) ss
+all_kept test member f [] = refl
+all_kept test member f (s ∷ ss) =
+    let rest = all_kept test member f ss in
+    elim (member s) as (λ b. list_all test (map f (cond b (s ∷ filter member ss) (filter member ss))) ≡ (cond b (test (f s)) true && list_all (λ s. cond (member s) (test (f s)) true) ss)) [
+      | true ↦ ap (λ (b : Bool). test (f s) && b) rest
+      | false ↦ rest
+    ]
+
+-- the test passes at every member below n, where f is asked and h is meant
+every : {X : Type 0} (test : X → Bool) (member : ℕ → Bool) (f h : ℕ → X) (n : ℕ) → ((s : ℕ) → s < n → f s ≡ h s) → list_all test (map f (filter member (range_with_len 0 n))) ≡ all_below (λ s. cond (member s) (test (h s)) true) n
+every test member f h n same =
+    all_kept test member f (range_with_len 0 n) ∙ all_over (λ s. cond (member s) (test (f s)) true) n
+    ∙ all_alike (λ s. cond (member s) (test (f s)) true) (λ s. cond (member s) (test (h s)) true) n (λ s l. ap (λ x. cond (member s) (test x) true) (same s l))
+
+module _ {X : Type 0} (kind : Kind X) where
+  abbrev pick : Bool → Bool → X
+  pick p q = cond p kind.one (cond q kind.other kind.mixed)
+
+  abbrev join : X → X → X
+  join a x = pick (kind.is_one a && kind.is_one x) (kind.is_other a && kind.is_other x)
+
+  -- a list of answers is joined to one just where all are that one
+  all_one : (a : X) (xs : List X) → kind.is_one (fold join a xs) ≡ (kind.is_one a && list_all kind.is_one xs)
+  all_one a [] = and_true (kind.is_one a)
+  all_one a (x ∷ xs) =
+      all_one (join a x) xs
+      ∙ ap (λ (b : Bool). b && list_all kind.is_one xs) (kind.one_of (kind.is_one a && kind.is_one x) (kind.is_other a && kind.is_other x))
+      ∙ and_assoc (kind.is_one a) (kind.is_one x) (list_all kind.is_one xs)
+
+  all_other : (a : X) (xs : List X) → kind.is_other (fold join a xs) ≡ (kind.is_other a && list_all kind.is_other xs)
+  all_other a [] = and_true (kind.is_other a)
+  all_other a (x ∷ xs) =
+      all_other (join a x) xs
+      ∙ ap (λ (b : Bool). b && list_all kind.is_other xs) (kind.other_of (kind.is_one a && kind.is_one x) (kind.is_other a && kind.is_other x) (λ e k. kind.apart a (and_parts _ _ e).0 (and_parts _ _ k).0))
+      ∙ and_assoc (kind.is_other a) (kind.is_other x) (list_all kind.is_other xs)
+
+  joined_is : (xs : List X) → unwrap_or (reduce join xs) kind.one ≡ pick (list_all kind.is_one xs) (list_all kind.is_other xs)
+  joined_is [] = refl
+  joined_is (x ∷ xs) =
+      sym (kind.alone (fold join x xs))
+      ∙ ap (λ (p : Bool). pick p (kind.is_other (fold join x xs))) (all_one x xs)
+      ∙ ap (pick (list_all kind.is_one (x ∷ xs))) (all_other x xs)
+
+  pub shared_is :
+      (member : ℕ → Bool) (f h : ℕ → X) (n : ℕ) → ((s : ℕ) → s < n → f s ≡ h s)
+      → unwrap_or (shared join member f n) kind.one ≡ pick (all_below (λ s. cond (member s) (kind.is_one (h s)) true) n) (all_below (λ s. cond (member s) (kind.is_other (h s)) true) n)
+  shared_is member f h n same =
+      let a = every kind.is_one member f h n same in
+      let b = every kind.is_other member f h n same in
+      joined_is (map f (filter member (range_with_len 0 n))) ∙ rw (a, b) refl
+
+module _ (M : Model) (group : ℕ → ℕ) (g : ℕ) where
+  pub step_is : (h : ℕ) → unwrap_or (shared joined_step (λ s. eqb (group s) g) (λ s. strength (asked M) group s h) M.states) Sure ≡ group_step M group g h
+  unfolding group_step
+  step_is h = shared_is steps (λ s. eqb (group s) g) (λ s. strength (asked M) group s h) (λ s. strength M group s h) M.states (λ s l. strength_known M group s h l)
+
+  pub mark_is : (p : ℕ) → p < M.marks → unwrap_or (shared joined_mark (λ s. eqb (group s) g) (λ s. mark_or_unknown M s p) M.states) T ≡ group_mark M group g p
+  unfolding group_mark
+  mark_is p l = shared_is marks (λ s. eqb (group s) g) (λ s. mark_or_unknown M s p) (λ s. M.mark s p) M.states (λ s k. mark_in_range M s k p l)
+
+-- a group is a start where one of its members is
+any_joined : (a : Bool) (bs : List Bool) → fold ◌||◌ a bs ≡ (a || list_any (λ b. b) bs)
+any_joined true [] = refl
+any_joined true (b ∷ bs) = any_joined true bs
+any_joined false [] = refl
+any_joined false (b ∷ bs) = any_joined b bs
+
+any_is : (bs : List Bool) → unwrap_or (reduce ◌||◌ bs) false ≡ list_any (λ b. b) bs
+any_is [] = refl
+any_is (b ∷ bs) = any_joined b bs
+
+any_kept : (member f : ℕ → Bool) (ss : List ℕ) → list_any (λ b. b) (map f (filter member ss)) ≡ list_any (λ s. member s && f s) ss
+any_kept member f [] = refl
+any_kept member f (s ∷ ss) =
+    let rest = any_kept member f ss in
+    elim (member s) as (λ b. list_any (λ x. x) (map f (cond b (s ∷ filter member ss) (filter member ss))) ≡ ((b && f s) || list_any (λ s. member s && f s) ss)) [
+      | true ↦ ap (λ (r : Bool). f s || r) rest
+      | false ↦ rest
+    ]
+
+pub start_is : (M : Model) (group : ℕ → ℕ) (g : ℕ) → unwrap_or (shared ◌||◌ (λ s. eqb (group s) g) (is_start M) M.states) false ≡ group_start M group g
+unfolding group_start
+start_is M group g =
+    let test = λ (s : ℕ). eqb (group s) g && is_start M s in
+    any_is (map (is_start M) (filter (λ s. eqb (group s) g) (range_with_len 0 M.states)))
+    ∙ any_kept (λ s. eqb (group s) g) (is_start M) (range_with_len 0 M.states)
+    ∙ any_over test M.states
+    ∙ any_alike test (start_in M group g) M.states (λ s l. ap (λ b. eqb (group s) g && b) (start_in_range M s l))
+
+-- rows that are joined are joined in each place
+module _ {X : Type 0} (width : ℕ) (join : X → X → X) (d : X) (f : ℕ → ℕ → X) (k : ℕ) (low : k < width) where
+  abbrev row : ℕ → List X
+  row s = map (f s) (range_with_len 0 width)
+
+  fold_at : (ss : List ℕ) (xs : List X) (b : X) → ((e : X) → get_or xs k e ≡ b) → (e : X) → get_or (fold (joined_row width join d) xs (map row ss)) k e ≡ fold join b (map (λ s. f s k) ss)
+  fold_at [] xs b at e = at e
+  fold_at (s ∷ ss) xs b at e =
+      fold_at ss (joined_row width join d xs (row s)) (join b (f s k))
+      (λ e.
+      get_or-map-range_with_len (λ j. join (get_or xs j d) (get_or (row s) j d)) 0 width k k e low (omega arith)
+      ∙ ap (λ (x : X). join x (get_or (row s) k d)) (at d)
+      ∙ ap (join b) (get_or-map-range_with_len (f s) 0 width k k d low (omega arith)))
+      e
+
+  fold_long : (ss : List ℕ) (xs : List X) → length xs ≡ width → length (fold (joined_row width join d) xs (map row ss)) ≡ width
+  fold_long [] xs long = long
+  fold_long (s ∷ ss) xs long = fold_long ss (joined_row width join d xs (row s)) (length-map-range_with_len (λ j. join (get_or xs j d) (get_or (row s) j d)) 0 width)
+
+  pub row_at : (ss : List ℕ) (e : X) → get_or (unwrap_or (reduce (joined_row width join d) (map row ss)) (replicate width d)) k e ≡ unwrap_or (reduce join (map (λ s. f s k) ss)) d
+  row_at [] e = get_or-replicate width k d e low
+  row_at (s ∷ ss) e = fold_at ss (row s) (f s k) (λ e. get_or-map-range_with_len (f s) 0 width k k e low (omega arith)) e
+
+  row_long : (ss : List ℕ) → length (unwrap_or (reduce (joined_row width join d) (map row ss)) (replicate width d)) ≡ width
+  row_long [] = length-replicate width d
+  row_long (s ∷ ss) = fold_long ss (row s) (length-map-range_with_len (f s) 0 width)
+
+-- rows of one length one after another
+rows_at : {X : Type 0} (width : ℕ) (rows : List (List X)) → ((g : ℕ) → g < length rows → length (get_or rows g []) ≡ width) → (g k : ℕ) (d : X) → g < length rows → k < width → get_or (flat_map (λ xs. xs) rows) (g * width + k) d ≡ get_or (get_or rows g []) k d
+rows_at width [] long g k d l m = absurd (omega arith)
+rows_at width (xs ∷ rows) long zero k d l m =
+    let first = long 0 (omega arith) in
+    let place : zero * width + k ≡ k = omega (arith, zero-mul width) in
+    ap (λ j. get_or (xs ++ flat_map (λ xs. xs) rows) j d) place ∙ get_or_append_left xs (flat_map (λ xs. xs) rows) d k (omega arith)
+rows_at width (xs ∷ rows) long (suc g) k d l m =
+    let first = long 0 (omega arith) in
+    let place : suc g * width + k ≡ length xs + (g * width + k) = omega (arith, suc-mul g width) in
+    ap (λ j. get_or (xs ++ flat_map (λ xs. xs) rows) j d) place
+    ∙ get_or-append-add xs (flat_map (λ xs. xs) rows) (g * width + k) d
+    ∙ rows_at width rows (λ h low. long (suc h) (omega arith)) g k d (omega arith) m
+
+-- the rows of what groups share, one after another
+pub flat_rows :
+    {X : Type 0} (width : ℕ) (join : X → X → X) (d : X) (f : ℕ → ℕ → X) (members : ℕ → List ℕ) (rows : List (List X)) → length rows ≡ 128
+    → ((g : ℕ) (e : List X) → g < 128 → get_or rows g e ≡ unwrap_or (reduce (joined_row width join d) (map (λ s. map (f s) (range_with_len 0 width)) (members g))) (replicate width d))
+    → (g k : ℕ) (e : X) → g < 128 → k < width → get_or (flat_map (λ xs. xs) rows) (g * width + k) e ≡ unwrap_or (reduce join (map (λ s. f s k) (members g))) d
+flat_rows width join d f members rows all at g k e l m =
+    rows_at width rows (λ h low. ap length (at h [] (omega arith)) ∙ row_long width join d f k m (members h)) g k e (omega arith) m
+    ∙ ap (λ xs. get_or xs k e) (at g [] l)
+    ∙ row_at width join d f k m (members g) e
+
+-- one more state
+module _ {X : Type 0} (join : X → X → X) (member : ℕ → Bool) (f : ℕ → X) where
+  range_last : (a n j : ℕ) → a + n ≡ j → range_with_len a (suc n) ≡ range_with_len a n ++ j ∷ []
+  range_last a zero j e = let same : a ≡ j = omega arith in ap (λ (k : ℕ). k ∷ []) same
+  range_last a (suc n) j e = ap (λ (ks : List ℕ). a ∷ ks) (range_last (a + 1) n j (omega arith))
+
+  abbrev chosen : List ℕ → List X
+  chosen ss = map f (filter member ss)
+
+  fold_last : (a : X) (ss : List ℕ) (j : ℕ) → fold join a (chosen (ss ++ j ∷ [])) ≡ cond (member j) (join (fold join a (chosen ss)) (f j)) (fold join a (chosen ss))
+  fold_last a [] j = elim (member j) as (λ b. fold join a (map f (cond b (j ∷ []) [])) ≡ cond b (join a (f j)) a) [ true ↦ refl | false ↦ refl ]
+  fold_last a (s ∷ ss) j =
+      elim (member s) as (λ b. fold join a (map f (cond b (s ∷ filter member (ss ++ j ∷ [])) (filter member (ss ++ j ∷ [])))) ≡ cond (member j) (join (fold join a (map f (cond b (s ∷ filter member ss) (filter member ss)))) (f j)) (fold join a (map f (cond b (s ∷ filter member ss) (filter member ss))))) [
+        | true ↦ fold_last (join a (f s)) ss j
+        | false ↦ fold_last a ss j
+      ]
+
+  some_cond : (b : Bool) (x y : X) → Some (cond b x y) ≡ cond b (Some x) (Some y)
+  some_cond true x y = refl
+  some_cond false x y = refl
+
+  reduce_last : (ss : List ℕ) (j : ℕ) → reduce join (chosen (ss ++ j ∷ [])) ≡ cond (member j) (Some (joined_with join (reduce join (chosen ss)) (f j))) (reduce join (chosen ss))
+  reduce_last [] j = elim (member j) as (λ b. reduce join (map f (cond b (j ∷ []) [])) ≡ cond b (Some (f j)) None) [ true ↦ refl | false ↦ refl ]
+  reduce_last (s ∷ ss) j =
+      elim (member s) as (λ b. reduce join (map f (cond b (s ∷ filter member (ss ++ j ∷ [])) (filter member (ss ++ j ∷ [])))) ≡ cond (member j) (Some (joined_with join (reduce join (map f (cond b (s ∷ filter member ss) (filter member ss)))) (f j))) (reduce join (map f (cond b (s ∷ filter member ss) (filter member ss))))) [
+        | true ↦ ap Some (fold_last (f s) ss j) ∙ some_cond (member j) (join (fold join (f s) (chosen ss)) (f j)) (fold join (f s) (chosen ss))
+        | false ↦ reduce_last ss j
+      ]
+
+  shared_more : (i : ℕ) → shared join member f (i + 1) ≡ cond (member i) (Some (joined_with join (shared join member f i) (f i))) (shared join member f i)
+  shared_more i = rw (add-one i) (ap (λ (ss : List ℕ). reduce join (chosen ss)) (range_last 0 i i (omega arith)) ∙ reduce_last (range_with_len 0 i) i)
+
+-- one more state joined to what the members of its group share
+pub rows_more :
+    {X : Type 0} (join : X → X → X) (group : ℕ → ℕ) (f : ℕ → X) (i : ℕ) (rows : List (Option X)) (h : ℕ) (o : Option X) (x v : X)
+    → h ≡ group i → h < length rows → o ≡ get_or rows h None → x ≡ f i → v ≡ joined_with join o x
+    → ((g : ℕ) → g < 128 → get_or rows g None ≡ shared join (λ s. eqb (group s) g) f i)
+    → (g : ℕ) → g < 128 → get_or (set rows h (Some v)) g None ≡ shared join (λ s. eqb (group s) g) f (i + 1)
+rows_more join group f i rows h o x v at low is told new so_far g l = elim (ℕ_discrete g h) [
+  | yes e ↦
+      let before : o ≡ shared join (λ s. eqb (group s) g) f i = is ∙ ap (λ k. get_or rows k None) (sym e) ∙ so_far g l in
+      ap (λ k. get_or (set rows h (Some v)) k None) e ∙ get_or-set_same rows h (Some v) None low
+      ∙ ap Some (new ∙ ap (λ p. joined_with join p x) before ∙ ap (joined_with join (shared join (λ s. eqb (group s) g) f i)) told)
+      ∙ sym (shared_more join (λ s. eqb (group s) g) f i ∙ cond-true _ _ _ (eq-eqb (group i) g (sym (e ∙ at))))
+  | no n ↦
+      get_or-set_other rows h g (Some v) None n ∙ so_far g l
+      ∙ sym (shared_more join (λ s. eqb (group s) g) f i ∙ cond-false _ _ _ (ne_eqb (group i) g (λ q. n (sym (at ∙ q)))))
+]

@@ -1,5 +1,0 @@
-use Rattle.std.proofs.Common.{◌-◌, length}
-use Rattle.rules.proofs.reader.+read_part.Given as goal
-
-abbrev pub decreases-read_part : goal.decreases-read_part
-decreases-read_part l = length l.text.now - l.at

@@ -1,0 +1,90 @@
+-- Chains over a range of numbers, in the words of the definitions: `(0..n).any(..)` is `any_below`, and so on.
+use Rattle.std.proofs.Common.{◌≡◌, ℕ, zero, suc, ◌+◌, ◌<◌, Bool, true, false, cond, ◌&&◌, ◌||◌, List, [], ◌∷◌, length, refl, ap, ◌∙◌, arith}
+use Rattle.std.proofs.iter.Yields.{nat_range_steps}
+use Rattle.std.proofs.lemmas.Iterator.{YieldsList-from_range}
+use Rattle.std.proofs.lemmas.Iterator.Search.{any_from_yields_List, all_from_yields_List}
+use Rattle.std.specs.Fn.{Called}
+use Rattle.std.specs.Iterator.{YieldsThen}
+use Rattle.std.specs.List.{FoldsTo, list_any, list_all, range_with_len, filter}
+use Rattle.std.specs.Option.{MatchOption}
+use Rattle.std.specs.declared.ops.Range.{Range}
+use Rattle.std.specs.Prelude.{Option}
+use denote.Param.Members.{Mut}
+use Rattle.systems.specs.Below.{all_below, any_below, count_below}
+
+or_assoc : (a b c : Bool) → (a || (b || c)) ≡ ((a || b) || c)
+or_assoc true b c = refl
+or_assoc false b c = refl
+
+or_swap : (a b : Bool) → (a || b) ≡ (b || a)
+or_swap true true = refl
+or_swap true false = refl
+or_swap false true = refl
+or_swap false false = refl
+
+and_assoc : (a b c : Bool) → (a && (b && c)) ≡ ((a && b) && c)
+and_assoc true b c = refl
+and_assoc false b c = refl
+
+and_swap : (a b : Bool) → (a && b) ≡ (b && a)
+and_swap true true = refl
+and_swap true false = refl
+and_swap false true = refl
+and_swap false false = refl
+
+-- the numbers below n in the order of a range, from the first on, where the definitions take the last first
+module _ (test : ℕ → Bool) where
+  any_last : (a n j : ℕ) → a + n ≡ j → list_any test (range_with_len a (suc n)) ≡ (list_any test (range_with_len a n) || test j)
+  any_last a zero j e = let same : a ≡ j = omega arith in or_swap (test a) false ∙ ap test same
+  any_last a (suc n) j e = rw (any_last (a + 1) n j (omega arith)) (or_assoc (test a) _ _)
+
+  pub any_over : (n : ℕ) → list_any test (range_with_len 0 n) ≡ any_below test n
+  any_over zero = refl
+  any_over (suc n) = rw (any_last 0 n n (omega arith), any_over n) (or_swap (any_below test n) (test n))
+
+  all_last : (a n j : ℕ) → a + n ≡ j → list_all test (range_with_len a (suc n)) ≡ (list_all test (range_with_len a n) && test j)
+  all_last a zero j e = let same : a ≡ j = omega arith in and_swap (test a) true ∙ ap test same
+  all_last a (suc n) j e = rw (all_last (a + 1) n j (omega arith)) (and_assoc (test a) _ _)
+
+  pub all_over : (n : ℕ) → list_all test (range_with_len 0 n) ≡ all_below test n
+  all_over zero = refl
+  all_over (suc n) = rw (all_last 0 n n (omega arith), all_over n) (and_swap (all_below test n) (test n))
+
+  one_more : (b : Bool) (x : ℕ) (ys : List ℕ) → length (cond {A = List ℕ} b (x ∷ ys) ys) ≡ cond {A = ℕ} b 1 0 + length ys
+  one_more true x ys = omega arith
+  one_more false x ys = omega arith
+
+  count_last : (a n j : ℕ) → a + n ≡ j → length (filter test (range_with_len a (suc n))) ≡ length (filter test (range_with_len a n)) + cond {A = ℕ} (test j) 1 0
+  count_last a zero j e =
+      let same : a ≡ j = omega arith in
+      let one : cond {A = ℕ} (test a) 1 0 ≡ cond {A = ℕ} (test j) 1 0 = ap (λ (x : ℕ). cond {A = ℕ} (test x) 1 0) same in
+      omega (arith, one_more (test a) a [])
+  count_last a (suc n) j e =
+      let rest = count_last (a + 1) n j (omega arith) in
+      omega (arith, one_more (test a) a (filter test (range_with_len (a + 1) (suc n))), one_more (test a) a (filter test (range_with_len (a + 1) n)))
+
+  pub count_over : (n : ℕ) → length (filter test (range_with_len 0 n)) ≡ count_below test n
+  count_over zero = refl
+  count_over (suc n) = omega (arith, count_over n, count_last 0 n n (omega arith))
+
+-- tests that agree below n
+module _ (f g : ℕ → Bool) where
+  pub any_alike : (n : ℕ) → ((k : ℕ) → k < n → f k ≡ g k) → any_below f n ≡ any_below g n
+  any_alike zero h = refl
+  any_alike (suc n) h = rw (h n (omega arith), any_alike n (λ k l. h k (omega arith))) refl
+
+  pub all_alike : (n : ℕ) → ((k : ℕ) → k < n → f k ≡ g k) → all_below f n ≡ all_below g n
+  all_alike zero h = refl
+  all_alike (suc n) h = rw (h n (omega arith), all_alike n (λ k l. h k (omega arith))) refl
+
+  pub count_alike : (n : ℕ) → ((k : ℕ) → k < n → f k ≡ g k) → count_below f n ≡ count_below g n
+  count_alike zero h = refl
+  count_alike (suc n) h = rw (h n (omega arith), count_alike n (λ k l. h k (omega arith))) refl
+
+-- `(0..n).any(f)` and `(0..n).all(f)`, where f computes a test: from the call's clause `ran`
+module _ {F : Type 0} {g : Mut F (ℕ × Unit {0}) Bool} {s : Range ℕ} (test : ℕ → Bool) (n : ℕ) (u : Range ℕ) (f : F) (r : Bool) where
+  pub any_in_range : (xs : List ℕ) × (o : Option ℕ) × (j : F) × YieldsThen nat_range_steps s xs o u × FoldsTo (λ p x q. Called g p (x, tt) false q) f xs j × MatchOption o (r ≡ false) (λ x. (r ≡ true) × ((h : F) × Called g j (x, tt) true h)) → s ≡ record { start = 0; end = n } → ((x : ℕ) (b : Bool) (q : F) → Called g f (x, tt) b q → (q ≡ f) × (b ≡ test x)) → r ≡ any_below test n
+  any_in_range ran e k = any_from_yields_List test u f r ran (YieldsList-from_range 0 n n e (omega arith)) k ∙ any_over test n
+
+  pub all_in_range : (xs : List ℕ) × (o : Option ℕ) × (j : F) × YieldsThen nat_range_steps s xs o u × FoldsTo (λ p x q. Called g p (x, tt) true q) f xs j × MatchOption o (r ≡ true) (λ x. (r ≡ false) × ((h : F) × Called g j (x, tt) false h)) → s ≡ record { start = 0; end = n } → ((x : ℕ) (b : Bool) (q : F) → Called g f (x, tt) b q → (q ≡ f) × (b ≡ test x)) → r ≡ all_below test n
+  all_in_range ran e k = all_from_yields_List test u f r ran (YieldsList-from_range 0 n n e (omega arith)) k ∙ all_over test n
