@@ -6,15 +6,6 @@ use lines::LineBuffer;
 use rules::{Rule, read};
 use std::io;
 use std::io::{BufReader, Read};
-use systems::Fault;
-
-fn print_refusal(rt: &HostRuntime, fault: Fault) -> io::Result<()> {
-    let number = u8::from(fault.refusal);
-    match fault.place {
-        Some(place) => println!(rt; "refused {number} at {place}"),
-        None => println!(rt; "refused {number}"),
-    }
-}
 
 fn print_rule(rt: &HostRuntime, rule: &Rule) -> io::Result<()> {
     let count = rule.count();
@@ -29,7 +20,7 @@ fn print_rule(rt: &HostRuntime, rule: &Rule) -> io::Result<()> {
 fn print_reading(rt: &HostRuntime, text: &[u8]) -> io::Result<()> {
     match read(text) {
         Ok(rule) => print_rule(rt, &rule),
-        Err(fault) => print_refusal(rt, fault),
+        Err(fault) => println!(rt; "{fault}"),
     }
 }
 

@@ -14,7 +14,7 @@ use Rattle.colours.proofs.Boards.{rated_step, step_rated, steps_below}
 use Rattle.colouring.specs.declared.columns.Columns.{Columns}
 use Rattle.colouring.specs.passes.Columns.{cell, column, Ordered, Written}
 use Rattle.colouring.specs.passes.Falling.{lower, Within, Upheld, Seen, covered, upheld, fell, Stands, Falling}
-use Rattle.colouring.proofs.Placing.{column_others, state_apart, cell_once, state_again, part_same, written_column, written_clean}
+use Rattle.colouring.proofs.Placing.{column_others, state_apart, waits_else, state_again, part_same, written_column, written_clean}
 use Rattle.colouring.proofs.Rises.{in_push, push_in}
 
 within_counts : (l : Level) (v w : Colour) → Within v w → So (counts l v) → So (counts l w)
@@ -213,13 +213,9 @@ module _ (p : Columns) (M : Model) (b₀ : List ℕ) (order : Ordered p) (states
       | inl f ↦ absurd (omega (arith, f.1))
       | inr (inl f) ↦ inr (inl f)
       | inr (inr (inr f)) ↦ inr (inr (inr f))
-      | inr (inr (inl m)) ↦ elim (outer (get_or w z 0) (subst (λ y. Among (cell p p.whole (get_or w z 0)) y) e m)) [ inl g ↦ inl (g, omega arith) | inr g ↦ inr (inr (inl g)) ]
+      | inr (inr (inl m)) ↦ elim (waits_else p order.whole x t at h' (get_or w z 0) (subst (λ y. Among (cell p p.whole (get_or w z 0)) y) e m)) [ inl g ↦ inl (g, omega arith) | inr g ↦ inr (inr (inl g)) ]
     ];
   }
-    where
-      outer : (u : ℕ) → Among (cell p p.whole u) (x ∷ h') → (u ≡ t) ⊎ Among (cell p p.whole u) h'
-      outer u (inl g) = inl (cell_once p p.whole u t order.whole (g ∙ at))
-      outer u (inr m) = inr m
 
   -- what waits is a position of the clause
   pub falling_waits : (b h h' w k : List ℕ) (x t : ℕ) → h ≡ x ∷ h' → t ≡ x / p.clauses → Falling p M b₀ b h w k 0 M.states → x ≡ cell p p.whole t

@@ -1,9 +1,10 @@
 -- The cells of a board's columns.
-use Rattle.std.proofs.Common.{◌≡◌, ℕ, ◌+◌, ◌/◌, ◌%◌, ◌<◌, ◌≤◌, Bool, true, false, ◌≢◌, List, length, get_or, set, sym, refl, ap, ◌∙◌, subst, arith, get_or-set_other, get_or-set_same}
+use Rattle.std.proofs.Common.{◌≡◌, ℕ, ◌+◌, ◌/◌, ◌%◌, ◌<◌, ◌≤◌, Bool, true, false, ◌≢◌, ◌⊎◌, List, ◌∷◌, length, get_or, set, sym, refl, ap, ◌∙◌, subst, inl, inr, arith, get_or-set_other, get_or-set_same}
 use native.Mathlib.Decide.{ℕ_discrete}
 use lib.Arith.{digits_lt, digits_div, digits_mod}
 use Rattle.systems.specs.declared.kinds.Colour.{Colour}
 use Rattle.systems.specs.declared.kinds.Colour.TheVariants.{Undecided, F, T}
+use Rattle.colours.specs.Walks.{Among}
 use Rattle.colouring.specs.declared.columns.Columns.{Columns}
 use Rattle.systems.specs.Numbers.{colour_number}
 use Rattle.colouring.specs.passes.Bytes.{decode, flipped}
@@ -37,6 +38,11 @@ module _ (p : Columns) where
 
   pub cell_once : (c s t : ℕ) → c < p.clauses → cell p c s ≡ cell p c t → s ≡ t
   cell_once c s t h e = sym (digits_div s h) ∙ ap (λ k. k / p.clauses) e ∙ digits_div t h
+
+  -- what waits, where t is taken out, is t or waits still
+  pub waits_else : p.whole < p.clauses → (x t : ℕ) → x ≡ cell p p.whole t → (h : List ℕ) (u : ℕ) → Among (cell p p.whole u) (x ∷ h) → (u ≡ t) ⊎ Among (cell p p.whole u) h
+  waits_else whole x t at h u (inl g) = inl (cell_once p.whole u t whole (g ∙ at))
+  waits_else whole x t at h u (inr m) = inr m
 
   pub state_apart : (c s t : ℕ) → c < p.clauses → t ≢ s → cell p c t ≢ cell p c s
   state_apart c s t h n e = n (cell_once c t s h e)

@@ -13,7 +13,7 @@ use Rattle.colours.proofs.Boards.{rated_step, step_rated, steps_below}
 use Rattle.colouring.specs.declared.columns.Columns.{Columns}
 use Rattle.colouring.specs.passes.Columns.{cell, column, Ordered, OnlyColumn, Clean, Written, throughout}
 use Rattle.colouring.specs.passes.Rising.{Raised, passed, Rising}
-use Rattle.colouring.proofs.Placing.{column_others, state_apart, cell_once, state_again, written_column, written_clean}
+use Rattle.colouring.proofs.Placing.{column_others, state_apart, waits_else, state_again, written_column, written_clean}
 
 pub in_push : (u s : ℕ) (h : List ℕ) → Among u (h ++ s ∷ []) → Among u h ⊎ (u ≡ s)
 in_push u s [] (inl e) = inr e
@@ -147,13 +147,9 @@ module _ (p : Columns) (M : Model) (b₀ : List ℕ) (order : Ordered p) (states
     pending = λ z u a d. elim (i.pending z u a d) [
       | inl f ↦ absurd (omega (arith, f.1))
       | inr (inr f) ↦ inr (inr f)
-      | inr (inl m) ↦ elim (outer u (subst (λ z. Among (cell p p.whole u) z) e m)) [ inl g ↦ inl (g, omega arith) | inr g ↦ inr (inl g) ]
+      | inr (inl m) ↦ elim (waits_else p order.whole x t at h' u (subst (λ z. Among (cell p p.whole u) z) e m)) [ inl g ↦ inl (g, omega arith) | inr g ↦ inr (inl g) ]
     ];
   }
-    where
-      outer : (u : ℕ) → Among (cell p p.whole u) (x ∷ h') → (u ≡ t) ⊎ Among (cell p p.whole u) h'
-      outer u (inl g) = inl (cell_once p p.whole u t order.whole (g ∙ at))
-      outer u (inr m) = inr m
 
   -- what waits is a position of the clause
   pub rising_waits : (b h h' : List ℕ) (x t st : ℕ) → h ≡ x ∷ h' → t ≡ x / p.clauses → Rising p M b₀ b h st 0 M.states → (x ≡ cell p p.whole t) × (t < M.states)

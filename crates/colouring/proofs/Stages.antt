@@ -1,10 +1,9 @@
 -- A board coloured clause by clause.
-use Rattle.std.proofs.Common.{◌≡◌, ℕ, ◌+◌, ◌%◌, ◌<◌, ◌≤◌, false, ◌⊎◌, List, length, get_or, Ok, Err, sym, refl, ap, ◌∙◌, subst, not-suc-le-zero, arith}
+use Rattle.std.proofs.Common.{◌≡◌, ℕ, ◌+◌, ◌%◌, ◌<◌, ◌≤◌, false, ◌⊎◌, List, length, get_or, Ok, Err, sym, refl, ap, ◌∙◌, subst, arith}
 use native.Mathlib.Decide.{ℕ_discrete}
 use mathlib.Core.Path.{subst₃}
 use lib.Arith.{digits_lt, digits_mod}
 use Rattle.std.specs.List.{AllByRecursion}
-use Rattle.std.proofs.ByRecursion.{All-get_or}
 use Rattle.systems.specs.declared.refusals.Refusal.TheVariants.{WorkspaceTooSmall}
 use Rattle.systems.specs.Model.{Model}
 use Rattle.rules.specs.declared.syntax.Clause.{Clause}
@@ -12,6 +11,7 @@ use Rattle.rules.specs.declared.syntax.Clause.TheVariants.{Constant}
 use Rattle.rules.specs.Formulas.{Formula}
 use Rattle.rules.specs.Clauses.{WellFounded, MarkBelow, formula}
 use Rattle.colours.specs.Boards.{place, positions}
+use Rattle.colours.proofs.Lists.{all_at}
 use Rattle.colours.proofs.Numbered.{formula_tree}
 use Rattle.queue.specs.declared.ring.Ring.{Ring}
 use Rattle.queue.specs.Held.{room}
@@ -27,9 +27,6 @@ module _ (M : Model) (cs : List Clause) (b₀ : List ℕ) where
       (AllByRecursion (MarkBelow M.marks) cs → (c : ℕ) → c < i → ShowsRule M b (length cs) c (formula cs c))
       × ((k : ℕ) → positions M cs ≤ k → get_or b k 0 ≡ get_or b₀ k 0)
 
-  pub coloured_none : ColouredBelow b₀ 0
-  coloured_none = (λ known c h. absurd (not-suc-le-zero h), λ k h. refl)
-
   kept : (b b' : List ℕ) (i c : ℕ) → i < length cs → c < i → OnlyAt M.states (length cs) i b b' → (f : Formula) → ShowsRule M b (length cs) c f → ShowsRule M b' (length cs) c f
   kept b b' i c h k only f shows s a = only (place (length cs) s c) (λ t d e. apart t e) ∙ shows s a
     where
@@ -42,18 +39,11 @@ module _ (M : Model) (cs : List Clause) (b₀ : List ℕ) where
     λ known c k. elim (ℕ_discrete c i) [
       | yes e ↦ subst (λ z. ShowsRule M b' (length cs) z (formula cs z)) (sym e)
           (subst (ShowsRule M b' (length cs) i) (sym (formula_tree cs founded i h))
-          (shows (All-get_or (MarkBelow M.marks) cs i (Constant false) h known) (formula cs) (so_far.0 known)))
+          (shows (all_at (MarkBelow M.marks) cs i (Constant false) h known) (formula cs) (so_far.0 known)))
       | no d ↦ kept b b' i c h (omega arith) only (formula cs c) (so_far.0 known c (omega arith))
     ],
     λ k l. only k (λ s a e. let x = digits_lt {q = s} {m = M.states} {r = i} {c = length cs} a h in absurd (omega arith)) ∙ so_far.1 k l,
   )
-
-  pub coloured_all : (b : List ℕ) (n : ℕ) → length cs ≤ n → length b ≡ length b₀ → positions M cs ≤ length b₀ → ColouredBelow b n → Becomes M cs b₀ b
-  coloured_all b n end long fits done = record {
-    coloured = λ known. record { fits = omega arith; shows = λ g c h k. done.0 known c (omega arith) g h };
-    beyond = done.1;
-    long = long;
-  }
 
 -- what was written into a clause's columns, by the number that it has in the rule
 module _ (M : Model) (cs : List Clause) (p : Columns) (i : ℕ) (same : model p ≡ M) (clauses : p.clauses ≡ length cs) (whole : p.whole ≡ i) (b b' : List ℕ) where

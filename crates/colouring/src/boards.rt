@@ -1,5 +1,7 @@
-// What a board says.
+// What a board says. The table, the rule and the board come one by one, since the calls are public: a
+// struct of them would ask callers for more.
 ghost use Rattle.std.specs.Prelude.{◌≡◌, ◌<◌, length, Some, count_by, nat_eq};
+ghost use Rattle.systems.specs.Numbers.{colour_number};
 ghost use Rattle.systems.specs.Written.{table_model};
 ghost use Rattle.rules.specs.Clauses.{formula, whole};
 ghost use Rattle.rules.specs.Rules.{clause_list};
@@ -29,7 +31,9 @@ fn told_at(table: &Table, rule: &Rule, board: &[u8], state: usize) -> Colour
     }
     let clauses = rule.count();
     let place = state * clauses + (clauses - 1);
-    decode(board.get(place).copied().unwrap_or(0))
+    board
+        .get(place)
+        .map_or(Colour::Undecided, |byte| decode(*byte))
 }
 
 // T if the rule is T at all starts, F if it is F at one, else undecided: one look at each state. A byte
@@ -72,15 +76,16 @@ pub fn count_positions(table: &Table, rule: &Rule, board: &[u8]) -> Tally
     let positions = table.states() * rule.count();
     let places = &board[..positions.min(board.len())];
     Tally {
-        t: count(places, 2),
-        f: count(places, 1),
-        undecided: count(places, 0),
+        t: count(places, Colour::T),
+        f: count(places, Colour::F),
+        undecided: count(places, Colour::Undecided),
     }
 }
 
-// How often a byte stands in a part of a board.
-fn count(places: &[u8], byte: u8) -> usize
-    ensures { result ≡ count_by (nat_eq byte) places.now }
+// How often the byte of a colour stands in a part of a board.
+fn count(places: &[u8], colour: Colour) -> usize
+    ensures { result ≡ count_by (nat_eq (colour_number colour)) places.now }
 {
+    let byte = u8::from(colour);
     places.iter().filter(|b| byte == **b).count()
 }

@@ -9,11 +9,19 @@ use crate::truth::{decode, flipped};
 use systems::Colour;
 
 impl Columns<'_> {
+    // The number of a clause's position at a state.
+    fn place(&self, clause: usize, state: usize) -> usize
+        requires { cell self.now clause state < 2 ^ 64 }
+        ensures { result ≡ cell self.now clause state }
+    {
+        state * self.clauses + clause
+    }
+
     pub(crate) fn read(&self, board: &[u8], clause: usize, state: usize) -> Colour
         requires { cell self.now clause state < length board.now }
         ensures { result ≡ column self.now board.now clause state }
     {
-        flipped(self.negated, decode(board[state * self.clauses + clause]))
+        flipped(self.negated, decode(board[self.place(clause, state)]))
     }
 
     // Writes the clause's colour at a state.
@@ -21,7 +29,7 @@ impl Columns<'_> {
         requires { cell self.now self.now.whole state < length board.old }
         ensures { board.new ≡ slice_set board.old (cell self.now self.now.whole state) (colour_number (flipped_of self.now.negated v)) }
     {
-        board[state * self.clauses + self.whole] = u8::from(flipped(self.negated, v));
+        board[self.position(state)] = u8::from(flipped(self.negated, v));
     }
 
     // The number of the clause's position at a state.
@@ -29,6 +37,6 @@ impl Columns<'_> {
         requires { cell self.now self.now.whole state < 2 ^ 64 }
         ensures { result ≡ cell self.now self.now.whole state }
     {
-        state * self.clauses + self.whole
+        self.place(self.whole, state)
     }
 }

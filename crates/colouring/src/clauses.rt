@@ -18,7 +18,8 @@ use queue::Ring;
 use rules::{Clause, Operator, Rule};
 use systems::{Colour, Table};
 
-// Writes the colours of a clause with two parts.
+// Writes the colours of a clause with two parts. That the queue has room is asked here and by both passes: before a
+// pass owns board and queue no type holds the two together.
 fn colour_pair(
     columns: &Columns<'_>,
     operator: Operator,

@@ -13,7 +13,7 @@ use systems::{Refusal, System, Table};
 // as they are. The queue may hold anything before, and it is open what it holds afterwards.
 //
 // Refused with 15, exactly where the board or the queue has fewer than G × C places; then both are left
-// as they are.
+// as they are. Each call puts this test to the workspaces that it is lent, which are other ones.
 //
 // A constant, a mark, & and | take one look at each state, AX and EX one row of steps for each state.
 // EU and AV look back over all states each time a state rises, which it does at most twice. EV and AU

@@ -21,7 +21,8 @@ fn turned(operator: Operator) -> bool
 }
 
 // Each column has a clause's colours at the states of a table, in rows of `clauses` bytes. A clause over
-// all paths is treated as the one over some path with T and F exchanged: then `negated` is set.
+// all paths is treated as the one over some path with T and F exchanged: then `negated` is set. A flag that is asked
+// at each place, and no closures for reading and writing, which the struct would have to keep.
 #[derive(Clone, Copy)]
 pub(crate) struct Columns<'a> {
     pub(crate) table: &'a Table,

@@ -24,7 +24,7 @@ struct FallingColumn<'t, 'b, 'q> {
     ghost place: { length (held queue.now) + left_below columns board.now ≤ room queue.now },
 }
 
-// One colour lower.
+// One colour lower in the order of truth, which the type does not have: a table from colours to colours.
 fn lower(c: Colour) -> Colour
     ensures { result ≡ lower_of c }
 {
@@ -116,7 +116,7 @@ impl FallingColumn<'_, '_, '_> {
         }
     }
 
-    // Looks at each state that noted t.
+    // Looks at each state that noted t. A `for`: a turn may write the board, the queue and the notes.
     fn look_again(&mut self, t: usize)
         requires { (b₀ : List ℕ) × Falls self.old b₀ t 0 }
         ensures same { Same self.old self.new }

@@ -10,7 +10,8 @@ use crate::columns::Columns;
 use crate::truth::{join, meet, rated};
 use systems::{Colour, Step, System};
 
-// Writes at each state what a rule for colours says of the board as it then is.
+// Writes at each state what a rule for colours says of the board as it then is. A `for`, since each turn
+// writes the board.
 fn write_each<F: Fn(&[u8], usize) -> Colour>(columns: &Columns<'_>, board: &mut [u8], value: F)
     requires lies { Lies columns.now board.old }
     requires askable { Askable columns.now board.old (F.pre value) }

@@ -25,7 +25,7 @@ impl RisingColumn<'_, '_, '_> {
     ghost use Rattle.colouring.specs.passes.RisingColumns.{Same, Next, load, Lifts, gain, Starts, Rises, Rests};
 
     // The colour of a clause at a state. This and `next` stand at falling columns too: a struct for what
-    // both hold would be a field that holds a `&mut`, whose use the borrow checker has no rule for yet.
+    // both hold would be a field that holds a `&mut`, whose use the borrow checker does not cover.
     fn read(&self, clause: usize, state: usize) -> Colour
         requires clause { clause < self.now.columns.clauses }
         requires state { state < self.now.columns.states }
@@ -77,7 +77,8 @@ impl RisingColumn<'_, '_, '_> {
         self.raise(s, gain);
     }
 
-    // Raises each state by what t passes on to it.
+    // Raises each state by what t passes on to it. A `for`, here and in `seed`: a turn may write the board and
+    // the queue.
     fn look_back(&mut self, t: usize)
         requires { t < self.old.columns.states }
         ensures same { Same self.old self.new }

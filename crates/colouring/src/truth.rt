@@ -53,7 +53,7 @@ pub(crate) fn meet(a: Colour, b: Colour) -> Colour
     }
 }
 
-// T and F exchanged, or not.
+// T and F exchanged, or not. No operator on colours: the flag is at hand wherever this is asked.
 pub(crate) fn flipped(negated: bool, c: Colour) -> Colour
     ensures { result ≡ flipped_of negated c }
 {

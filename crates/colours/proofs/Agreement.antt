@@ -26,19 +26,22 @@ module _ (M L : Model) (a : Agree M L) where
   abbrev Same : ℕ → ℕ → Type 0
   Same s t = (s ≡ t) × (s < M.states)
 
-  within : (s : ℕ) → s < M.states → s < L.states
+  pub within : (s : ℕ) → s < M.states → s < L.states
   within s b = rw (sym a.states) b
 
   surely : (s t : ℕ) → Surely M s t → Surely L s t
   surely s t k = (within s k.0, within t k.1, sym (a.step s t k.0 k.1) ∙ k.2)
 
-  possibly : (s t : ℕ) → s < M.states → Possibly L s t → Possibly M s t
-  possibly s t b k = let c : t < M.states = rw a.states k.1 in (b, c, λ e. k.2 (sym (a.step s t b c) ∙ e))
+  pub possibly : (s t : ℕ) → Possibly L s t → Possibly M s t
+  possibly s t k =
+      let b : s < M.states = rw a.states k.0 in
+      let c : t < M.states = rw a.states k.1 in
+      (b, c, λ e. k.2 (sym (a.step s t b c) ∙ e))
 
   same_abstracts : Abstracts M L M.marks Same
   same_abstracts = record {
     sure_step = λ g s h o k. (h, surely s h (subst (λ z. Surely M z h) o.0 k), (refl, k.1));
-    possible_step = λ g s t o k. let p = possibly g t o.1 (subst (λ z. Possibly L z t) (sym o.0) k) in (t, p, (refl, p.1));
+    possible_step = λ g s t o k. let p = possibly g t (subst (λ z. Possibly L z t) (sym o.0) k) in (t, p, (refl, p.1));
     mark_T = λ g s p low o e. ap (λ z. L.mark z p) (sym o.0) ∙ sym (a.mark g p o.1 low) ∙ e;
     mark_F = λ g s p low o e. ap (λ z. L.mark z p) (sym o.0) ∙ sym (a.mark g p o.1 low) ∙ e;
   }
@@ -46,7 +49,7 @@ module _ (M L : Model) (a : Agree M L) where
   keeps : (f : Formula) → MarksBelow M.marks f → Keeps Same (colouring M f) (colouring L f)
   keeps = preserves M L M.marks Same same_abstracts
 
-  starts : (s : ℕ) → Starts M s → Starts L s
+  pub starts : (s : ℕ) → Starts M s → Starts L s
   starts s k = (within s k.0, sym (a.start s k.0) ∙ k.1)
 
 module _ (M L : Model) (a : Agree M L) (f : Formula) (m : MarksBelow M.marks f) where
@@ -56,7 +59,7 @@ module _ (M L : Model) (a : Agree M L) (f : Formula) (m : MarksBelow M.marks f) 
   back : Keeps (Same L M (agree_back M L a)) (colouring L f) (colouring M f)
   back = keeps L M (agree_back M L a) f (subst (λ n. MarksBelow n f) a.marks m)
 
-  same_colour : (v : Colour) (s : ℕ) → s < M.states → HasColour (colouring M f) s v → HasColour (colouring L f) s v
+  pub same_colour : (v : Colour) (s : ℕ) → s < M.states → HasColour (colouring M f) s v → HasColour (colouring L f) s v
   same_colour T s b h = there.0 s s (refl, b) h
   same_colour F s b h = there.1 s s (refl, b) h
   same_colour Undecided s b h = let c = within M L a s b in (λ t. h.0 (back.0 s s (refl, c) t), λ t. h.1 (back.1 s s (refl, c) t))

@@ -22,9 +22,7 @@ use Rattle.colours.proofs.Numbered.{formula_tree}
 use Rattle.colours.proofs.Stuck.{and_stuck, next_stuck, until_stuck, release_stuck}
 
 neither : (c : Colour) → ¬ (c ≡ T) → ¬ (c ≡ F) → c ≡ Undecided
-neither Undecided a b = refl
-neither F a b = absurd (b refl)
-neither T a b = absurd (a refl)
+neither c a b = grind arith
 
 -- a mark that is undecided is unknown
 pub unknown_mark : (M : Model) (s p : ℕ) (negated : Bool) → HasColour (colouring M (mark p negated)) s Undecided → M.mark s p ≡ Undecided
@@ -43,12 +41,9 @@ module _ (M : Model) (cs : List Clause) (founded : WellFounded cs) (V : Position
   inside : (i s : ℕ) → At i s → s < M.states
   inside i s v = (opened (record { group = s; clause = i }) v).0
 
-  shows : (f : Formula) → Shows M (colouring M f) (colour_of M f)
-  shows = colours_shown M
-
   -- with T and F exchanged
   turned : (f : Formula) → Shows M (exchange (colouring M f)) (λ s. negate (colour_of M f s))
-  turned f = negate_shows M (colouring M f) (colour_of M f) (shows f)
+  turned f = negate_shows M (colouring M f) (colour_of M f) (colours_shown M f)
 
   -- the set has no clause before i
   module _ (i : ℕ) (low : i < length cs) (none : (j : ℕ) → j < i → (s : ℕ) → ¬ At j s) where
@@ -83,6 +78,15 @@ module _ (M : Model) (cs : List Clause) (founded : WellFounded cs) (V : Position
       awaits : (o : Operator) (t : ℕ) → Awaited o (colouring M (tree (formula cs) c)) t → Awaited o (colours M cs i) t
       awaits o t h = subst (λ f. Awaited o (colouring M f) t) (sym made) h
 
+    -- the parts of a pair are decided where the set has it
+    parts_decided : (o : Operator) (r q : ℕ) → clause_at cs i ≡ Pair o r q → PartsBelow i (Pair o r q) → (s : ℕ) → At i s
+        → (¬ HasColour (colours M cs r) s Undecided) × (¬ HasColour (colours M cs q) s Undecided)
+    parts_decided o r q is k s v =
+        let c = Pair o r q in (
+          part c is s r s v (inl (inl refl, refl)) (inside i s v) k.0,
+          part c is s q s v (inl (inr refl, refl)) (inside i s v) k.1,
+        )
+
     -- clause i is nowhere in the set: for A from E with T and F exchanged
     nowhere : (c : Clause) → clause_at cs i ≡ c → PartsBelow i c → (s : ℕ) → ¬ At i s
     unfolding colouring
@@ -92,7 +96,7 @@ module _ (M : Model) (cs : List Clause) (founded : WellFounded cs) (V : Position
         mark_end (Mark p negated) is s p negated v refl (unknown_mark M s p negated (undecided (Mark p negated) is s v))
     nowhere (Next E r) is k =
         let c = Next E r in
-        next_stuck M (colours M cs r) (colour_of M (formula cs r)) (shows (formula cs r)) (At i) (undecided c is)
+        next_stuck M (colours M cs r) (colour_of M (formula cs r)) (colours_shown M (formula cs r)) (At i) (undecided c is)
         (λ s t v h. part c is s r t v (refl, h) h.1 k)
         (λ s t v u h. step_end c is s t v (u, h))
     nowhere (Next A r) is k =
@@ -102,55 +106,49 @@ module _ (M : Model) (cs : List Clause) (founded : WellFounded cs) (V : Position
         (λ s t v h u. part c is s r t v (refl, h) h.1 k (u.1, u.0))
         (λ s t v u h. step_end c is s t v (u, h))
     nowhere (Pair And r q) is k =
-        let c = Pair And r q in
-        and_stuck M (colours M cs r) (colours M cs q) (colour_of M (formula cs r)) (colour_of M (formula cs q)) (shows (formula cs r))
-        (shows (formula cs q)) (At i) (inside i)
-        (λ s v. part c is s r s v (inl (inl refl, refl)) (inside i s v) k.0)
-        (λ s v. part c is s q s v (inl (inr refl, refl)) (inside i s v) k.1)
+        let c = Pair And r q in let parts = parts_decided And r q is k in
+        and_stuck M (colours M cs r) (colours M cs q) (colour_of M (formula cs r)) (colour_of M (formula cs q)) (colours_shown M (formula cs r))
+        (colours_shown M (formula cs q)) (At i) (inside i)
+        (λ s v. (parts s v).0) (λ s v. (parts s v).1)
         (undecided c is)
     nowhere (Pair Or r q) is k =
-        let c = Pair Or r q in
+        let c = Pair Or r q in let parts = parts_decided Or r q is k in
         and_stuck M (exchange (colours M cs r)) (exchange (colours M cs q)) (λ s. negate (colour_of M (formula cs r) s))
         (λ s. negate (colour_of M (formula cs q) s))
         (turned (formula cs r)) (turned (formula cs q)) (At i) (inside i)
-        (λ s v u. part c is s r s v (inl (inl refl, refl)) (inside i s v) k.0 (u.1, u.0))
-        (λ s v u. part c is s q s v (inl (inr refl, refl)) (inside i s v) k.1 (u.1, u.0))
+        (λ s v u. (parts s v).0 (u.1, u.0)) (λ s v u. (parts s v).1 (u.1, u.0))
         (λ s v. let u = undecided c is s v in (u.1, u.0))
     nowhere (Pair EU r q) is k =
-        let c = Pair EU r q in let f = pair EU (formula cs r) (formula cs q) in
-        until_stuck M (colours M cs r) (colours M cs q) (colour_of M (formula cs r)) (colour_of M (formula cs q)) (shows (formula cs r))
-        (shows (formula cs q)) (At i) (inside i)
-        (λ s v. part c is s r s v (inl (inl refl, refl)) (inside i s v) k.0)
-        (λ s v. part c is s q s v (inl (inr refl, refl)) (inside i s v) k.1)
-        (colour_of M f) (shows f) (undecided c is)
+        let c = Pair EU r q in let parts = parts_decided EU r q is k in let f = pair EU (formula cs r) (formula cs q) in
+        until_stuck M (colours M cs r) (colours M cs q) (colour_of M (formula cs r)) (colour_of M (formula cs q)) (colours_shown M (formula cs r))
+        (colours_shown M (formula cs q)) (At i) (inside i)
+        (λ s v. (parts s v).0) (λ s v. (parts s v).1)
+        (colour_of M f) (colours_shown M f) (undecided c is)
         (λ s t v n h. same c is s t v (inr (refl, n, h)) h.1)
         (λ s t v n u h. step_end c is s t v (u, n, awaits c is EU t h))
     nowhere (Pair AV r q) is k =
-        let c = Pair AV r q in let f = pair AV (formula cs r) (formula cs q) in
+        let c = Pair AV r q in let parts = parts_decided AV r q is k in let f = pair AV (formula cs r) (formula cs q) in
         until_stuck M (exchange (colours M cs r)) (exchange (colours M cs q)) (λ s. negate (colour_of M (formula cs r) s))
         (λ s. negate (colour_of M (formula cs q) s))
         (turned (formula cs r)) (turned (formula cs q)) (At i) (inside i)
-        (λ s v u. part c is s r s v (inl (inl refl, refl)) (inside i s v) k.0 (u.1, u.0))
-        (λ s v u. part c is s q s v (inl (inr refl, refl)) (inside i s v) k.1 (u.1, u.0))
+        (λ s v u. (parts s v).0 (u.1, u.0)) (λ s v u. (parts s v).1 (u.1, u.0))
         (λ s. negate (colour_of M f s)) (turned f) (λ s v. let u = undecided c is s v in (u.1, u.0))
         (λ s t v n h u. same c is s t v (inr (refl, n, h)) h.1 (u.1, u.0))
         (λ s t v n u h. step_end c is s t v (u, n, awaits c is AV t h))
     nowhere (Pair EV r q) is k =
-        let c = Pair EV r q in let f = pair EV (formula cs r) (formula cs q) in
-        release_stuck M (colours M cs r) (colours M cs q) (colour_of M (formula cs r)) (colour_of M (formula cs q)) (shows (formula cs r))
-        (shows (formula cs q)) (At i) (inside i)
-        (λ s v. part c is s r s v (inl (inl refl, refl)) (inside i s v) k.0)
-        (λ s v. part c is s q s v (inl (inr refl, refl)) (inside i s v) k.1)
-        (colour_of M f) (shows f) (undecided c is)
+        let c = Pair EV r q in let parts = parts_decided EV r q is k in let f = pair EV (formula cs r) (formula cs q) in
+        release_stuck M (colours M cs r) (colours M cs q) (colour_of M (formula cs r)) (colour_of M (formula cs q)) (colours_shown M (formula cs r))
+        (colours_shown M (formula cs q)) (At i) (inside i)
+        (λ s v. (parts s v).0) (λ s v. (parts s v).1)
+        (colour_of M f) (colours_shown M f) (undecided c is)
         (λ s t v n h. same c is s t v (inr (refl, n, h)) h.1)
         (λ s t v n u h. step_end c is s t v (u, n, awaits c is EV t h))
     nowhere (Pair AU r q) is k =
-        let c = Pair AU r q in let f = pair AU (formula cs r) (formula cs q) in
+        let c = Pair AU r q in let parts = parts_decided AU r q is k in let f = pair AU (formula cs r) (formula cs q) in
         release_stuck M (exchange (colours M cs r)) (exchange (colours M cs q)) (λ s. negate (colour_of M (formula cs r) s))
         (λ s. negate (colour_of M (formula cs q) s))
         (turned (formula cs r)) (turned (formula cs q)) (At i) (inside i)
-        (λ s v u. part c is s r s v (inl (inl refl, refl)) (inside i s v) k.0 (u.1, u.0))
-        (λ s v u. part c is s q s v (inl (inr refl, refl)) (inside i s v) k.1 (u.1, u.0))
+        (λ s v u. (parts s v).0 (u.1, u.0)) (λ s v u. (parts s v).1 (u.1, u.0))
         (λ s. negate (colour_of M f s)) (turned f) (λ s v. let u = undecided c is s v in (u.1, u.0))
         (λ s t v n h u. same c is s t v (inr (refl, n, h)) h.1 (u.1, u.0))
         (λ s t v n u h. step_end c is s t v (u, n, awaits c is AU t (elim h [ inl x ↦ inl x | inr x ↦ inr (x.1, x.0) ])))

@@ -1,5 +1,5 @@
 -- The computed board has the colours.
-use Rattle.std.proofs.Common.{◌≡◌, ℕ, ◌<◌, Bool, true, false, not, T as So, List, sym, refl, ap, ◌∙◌, subst}
+use Rattle.std.proofs.Common.{◌≡◌, ℕ, ◌<◌, Bool, true, false, not, T as So, List, sym, refl, ap, ◌∙◌, subst, arith}
 use Rattle.systems.specs.declared.kinds.Colour.{Colour}
 use Rattle.systems.specs.declared.kinds.Colour.TheVariants.{Undecided, F, T}
 use Rattle.systems.specs.Model.{Model}
@@ -19,14 +19,10 @@ use Rattle.colours.proofs.Shown.{Shows, negate_shows, unnegate_shows, meet_shows
 use Rattle.colours.proofs.Rounds.{at_listed, LitWithin, comes_to_rest, kept, negated}
 
 contra : (a b : Bool) → (So (not a) → So (not b)) → So b → So a
-contra true b h k = tt
-contra false true h k = h tt
-contra false false h k = k
+contra a b h k = grind arith
 
 uncontra : (a b : Bool) → (So b → So a) → So (not a) → So (not b)
-uncontra true b h k = absurd k
-uncontra false true h k = h tt
-uncontra false false h k = tt
+uncontra a b h k = grind arith
 
 module _ (M : Model) (r q : ℕ → Colour) where
   -- the boards of E(r U q) and E(r V q), and those of A(r U q) and A(r V q)
@@ -71,11 +67,7 @@ module _ (M : Model) (r q : ℕ → Colour) where
           (release_grows M l r q y x (λ t c. contra (counts l (x t)) (counts l (y t)) (h t c)) s b)
 
       start : (t : ℕ) → t < M.states → ¬ So (not (counts l (colour_at (listed M.states (λ s. T)) t)))
-      start t c h = absurd_not (counts l (colour_at (listed M.states (λ s. T)) t)) (all t c) h
-        where
-          absurd_not : (a : Bool) → So a → So (not a) → ⊥
-          absurd_not true h k = k
-          absurd_not false h k = h
+      start t c h = let k = all t c in grind arith
 
 -- what a round gives depends on the states below
 until_same : (M : Model) (k : Quantifier) (r q x y : ℕ → Colour) (s : ℕ) → s < M.states → ((t : ℕ) → t < M.states → x t ≡ y t)

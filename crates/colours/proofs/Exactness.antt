@@ -29,19 +29,13 @@ Decided F = Unit {0}
 Decided T = Unit {0}
 
 join_decided : (a b : Colour) → Decided a → Decided b → Decided (join a b)
-join_decided Undecided b h k = absurd h
-join_decided F b h k = k
-join_decided T b h k = tt
+join_decided a b h k = grind arith
 
 meet_decided : (a b : Colour) → Decided a → Decided b → Decided (meet a b)
-meet_decided Undecided b h k = absurd h
-meet_decided F b h k = tt
-meet_decided T b h k = k
+meet_decided a b h k = grind arith
 
 negate_decided : (a : Colour) → Decided a → Decided (negate a)
-negate_decided Undecided h = h
-negate_decided F h = tt
-negate_decided T h = tt
+negate_decided a h = grind arith
 
 join_below_decided : (n : ℕ) (f : ℕ → Colour) → ((t : ℕ) → t < n → Decided (f t)) → Decided (join_below n f)
 unfolding join_below
@@ -54,14 +48,10 @@ meet_below_decided zero f h = tt
 meet_below_decided (suc n) f h = meet_decided (meet_below n f) (f n) (meet_below_decided n f (λ t b. h t (omega arith))) (h n (omega arith))
 
 known_step : (k : Step) → ¬ (k ≡ Unsure) → Decided (rated k)
-known_step Absent n = tt
-known_step Unsure n = n refl
-known_step Sure n = tt
+known_step k n = grind arith
 
 known_mark : (c : Colour) → ¬ (c ≡ Undecided) → Decided c
-known_mark Undecided n = n refl
-known_mark F n = tt
-known_mark T n = tt
+known_mark c n = grind arith
 
 undecided_not : (c : Colour) → Decided c → ¬ (Undecided ≡ c)
 undecided_not c h e = subst Decided (sym e) h

@@ -1,5 +1,5 @@
 -- What the tests of a grouping decide.
-use Rattle.std.proofs.Common.{◌≡◌, ℕ, zero, suc, ◌<◌, Bool, true, false, cond, ◌&&◌, ◌||◌, eqb, ◌⊎◌, Decides, sym, refl, ◌∙◌, inl, inr, arith}
+use Rattle.std.proofs.Common.{◌≡◌, ℕ, zero, suc, ◌<◌, Bool, true, false, cond, ◌&&◌, ◌||◌, eqb, Decides, sym, refl, ◌∙◌, inl, inr, arith}
 use Rattle.std.proofs.lemmas.Bool.Decides.{Decides-eqb, Decides-like, Decides-and, Decides-below_and, Decides-below_or, not_from_Decides}
 use Rattle.std.proofs.lemmas.Bool.{and_cases}
 use Rattle.systems.specs.declared.kinds.Step.{Step}
@@ -12,24 +12,16 @@ use Rattle.colours.specs.Groupings.{is_sure, is_absent, is_true, is_false, surer
 
 -- the tests of a step and of a colour
 decides_sure : (k : Step) → Decides (is_sure k) (k ≡ Sure)
-decides_sure Absent = (λ e. grind arith, λ e. grind arith)
-decides_sure Unsure = (λ e. grind arith, λ e. grind arith)
-decides_sure Sure = (λ e. refl, λ e. refl)
+decides_sure k = (λ e. grind arith, λ e. grind arith)
 
 decides_absent : (k : Step) → Decides (is_absent k) (k ≡ Absent)
-decides_absent Absent = (λ e. refl, λ e. refl)
-decides_absent Unsure = (λ e. grind arith, λ e. grind arith)
-decides_absent Sure = (λ e. grind arith, λ e. grind arith)
+decides_absent k = (λ e. grind arith, λ e. grind arith)
 
 decides_true : (c : Colour) → Decides (is_true c) (c ≡ T)
-decides_true Undecided = (λ e. grind arith, λ e. grind arith)
-decides_true F = (λ e. grind arith, λ e. grind arith)
-decides_true T = (λ e. refl, λ e. refl)
+decides_true c = (λ e. grind arith, λ e. grind arith)
 
 decides_false : (c : Colour) → Decides (is_false c) (c ≡ F)
-decides_false Undecided = (λ e. grind arith, λ e. grind arith)
-decides_false F = (λ e. refl, λ e. refl)
-decides_false T = (λ e. grind arith, λ e. grind arith)
+decides_false c = (λ e. grind arith, λ e. grind arith)
 
 -- the surest of steps is sure if one is, and absent if all are
 sure_or : (a b : Step) → is_sure (surer a b) ≡ (is_sure b || is_sure a)
@@ -53,8 +45,7 @@ decides_if true b h k = (λ e p. k.0 e, λ i. k.1 (i (h.0 refl)))
 decides_if false b h k = (λ e p. absurd (not_from_Decides false h refl p), λ i. refl)
 
 cond_sure : (a : Bool) (k : Step) → cond a k Absent ≡ Sure → (a ≡ true) × (k ≡ Sure)
-cond_sure true k e = (refl, e)
-cond_sure false k e = grind arith
+cond_sure a k e = (grind arith, grind arith)
 
 fails_below : (test : ℕ → Bool) (n : ℕ) → all_below test n ≡ false → (s : ℕ) × (s < n) × (test s ≡ false)
 fails_below test zero e = grind arith
@@ -62,8 +53,7 @@ fails_below test (suc n) e = elim (and_cases (test n) (all_below test n) e)
     [ inl h ↦ (n, omega arith, h) | inr h ↦ let w = fails_below test n h in (w.0, omega (arith, w.1), w.2) ]
 
 cond_fails : (a b : Bool) → cond a b true ≡ false → (a ≡ true) × (b ≡ false)
-cond_fails true b e = (refl, e)
-cond_fails false b e = grind arith
+cond_fails a b e = (grind arith, grind arith)
 
 module _ (M : Model) (group : ℕ → ℕ) where
   every_decides : (g : ℕ) (test : ℕ → Bool) (P : ℕ → Type 0) → ((s : ℕ) → Decides (test s) (P s))
@@ -111,23 +101,13 @@ module _ (M : Model) (group : ℕ → ℕ) where
   abbrev all_absent : ℕ → ℕ → Bool
   all_absent g h = every_member M group g (absent_into M group h)
 
-  step_cases : (a b : Bool) (k : Step) → cond a Sure (cond b Absent Unsure) ≡ k
-      → ((k ≡ Sure) × (a ≡ true)) ⊎ (((k ≡ Absent) × (b ≡ true)) ⊎ ((k ≡ Unsure) × (a ≡ false) × (b ≡ false)))
-  step_cases true b k e = inl (sym e, refl)
-  step_cases false true k e = inr (inl (sym e, refl))
-  step_cases false false k e = inr (inr (sym e, refl, refl))
-
   pub sure_group_step : (g h : ℕ) → group_step M group g h ≡ Sure → (s : ℕ) → Member M group g s
       → (t : ℕ) × Member M group h t × (M.step s t ≡ Sure)
   unfolding group_step
   sure_group_step g h e =
       (every_decides g (sure_into M group h) (λ s. (t : ℕ) × Member M group h t × (M.step s t ≡ Sure))
       (λ s. strength_sure s h)).0
-      (elim (step_cases (all_sure g h) (all_absent g h) Sure e) [
-        | inl k ↦ k.1
-        | inr (inl k) ↦ grind (arith, k.0)
-        | inr (inr k) ↦ grind (arith, k.0)
-      ])
+      (grind (arith, e))
 
   pub absent_group_step : (g h : ℕ) → group_step M group g h ≡ Absent → (s : ℕ) → Member M group g s → (t : ℕ) → Member M group h t
       → M.step s t ≡ Absent
@@ -135,30 +115,18 @@ module _ (M : Model) (group : ℕ → ℕ) where
   absent_group_step g h e =
       (every_decides g (absent_into M group h) (λ s. (t : ℕ) → Member M group h t → M.step s t ≡ Absent)
       (λ s. strength_absent s h)).0
-      (elim (step_cases (all_sure g h) (all_absent g h) Absent e) [
-        | inl k ↦ grind (arith, k.0)
-        | inr (inl k) ↦ k.1
-        | inr (inr k) ↦ grind (arith, k.0)
-      ])
+      (grind (arith, e))
 
   -- of an unsure step one member has no sure strength, and one has some strength
   pub unsure_group_step : (g h : ℕ) → group_step M group g h ≡ Unsure
       → (s : ℕ) × (t : ℕ) × Member M group g s × Member M group g t × (is_sure (strength M group s h) ≡ false) ×
       (is_absent (strength M group t h) ≡ false)
   unfolding group_step
-  unsure_group_step g h e = elim (step_cases (all_sure g h) (all_absent g h) Unsure e) [
-    | inl k ↦ grind (arith, k.0)
-    | inr (inl k) ↦ grind (arith, k.0)
-    | inr (inr k) ↦ (let s = some_fails g (sure_into M group h) k.1 in
-        let t = some_fails g (absent_into M group h) k.2 in
-        (s.0, t.0, s.1, t.1, s.2, t.2))
-  ]
-
-  mark_cases : (a b : Bool) (k : Colour) → cond a T (cond b F Undecided) ≡ k
-      → ((k ≡ T) × (a ≡ true)) ⊎ (((k ≡ F) × (b ≡ true)) ⊎ ((k ≡ Undecided) × (a ≡ false) × (b ≡ false)))
-  mark_cases true b k e = inl (sym e, refl)
-  mark_cases false true k e = inr (inl (sym e, refl))
-  mark_cases false false k e = inr (inr (sym e, refl, refl))
+  unsure_group_step g h e =
+      let k : (all_sure g h ≡ false) × (all_absent g h ≡ false) = (grind (arith, e), grind (arith, e)) in
+      let s = some_fails g (sure_into M group h) k.0 in
+      let t = some_fails g (absent_into M group h) k.1 in
+      (s.0, t.0, s.1, t.1, s.2, t.2)
 
   abbrev all_true : ℕ → ℕ → Bool
   all_true g p = every_member M group g (true_at M p)
@@ -169,32 +137,22 @@ module _ (M : Model) (group : ℕ → ℕ) where
   pub true_group_mark : (g p : ℕ) → group_mark M group g p ≡ T → (s : ℕ) → Member M group g s → M.mark s p ≡ T
   unfolding group_mark
   true_group_mark g p e = (every_decides g (true_at M p) (λ s. M.mark s p ≡ T) (λ s. decides_true (M.mark s p))).0
-      (elim (mark_cases (all_true g p) (all_false g p) T e) [
-        | inl k ↦ k.1
-        | inr (inl k) ↦ grind (arith, k.0)
-        | inr (inr k) ↦ grind (arith, k.0)
-      ])
+      (grind (arith, e))
 
   pub false_group_mark : (g p : ℕ) → group_mark M group g p ≡ F → (s : ℕ) → Member M group g s → M.mark s p ≡ F
   unfolding group_mark
   false_group_mark g p e = (every_decides g (false_at M p) (λ s. M.mark s p ≡ F) (λ s. decides_false (M.mark s p))).0
-      (elim (mark_cases (all_true g p) (all_false g p) F e) [
-        | inl k ↦ grind (arith, k.0)
-        | inr (inl k) ↦ k.1
-        | inr (inr k) ↦ grind (arith, k.0)
-      ])
+      (grind (arith, e))
 
   -- of an unknown mark one member has no T, and one no F
   pub unknown_group_mark : (g p : ℕ) → group_mark M group g p ≡ Undecided
       → (s : ℕ) × (t : ℕ) × Member M group g s × Member M group g t × (is_true (M.mark s p) ≡ false) × (is_false (M.mark t p) ≡ false)
   unfolding group_mark
-  unknown_group_mark g p e = elim (mark_cases (all_true g p) (all_false g p) Undecided e) [
-    | inl k ↦ grind (arith, k.0)
-    | inr (inl k) ↦ grind (arith, k.0)
-    | inr (inr k) ↦ (let s = some_fails g (true_at M p) k.1 in
-        let t = some_fails g (false_at M p) k.2 in
-        (s.0, t.0, s.1, t.1, s.2, t.2))
-  ]
+  unknown_group_mark g p e =
+      let k : (all_true g p ≡ false) × (all_false g p ≡ false) = (grind (arith, e), grind (arith, e)) in
+      let s = some_fails g (true_at M p) k.0 in
+      let t = some_fails g (false_at M p) k.1 in
+      (s.0, t.0, s.1, t.1, s.2, t.2)
 
   pub group_start_decides : (g : ℕ) → Decides (group_start M group g) ((s : ℕ) × Member M group g s × (M.start s ≡ true))
   unfolding group_start

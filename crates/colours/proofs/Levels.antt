@@ -1,32 +1,23 @@
 -- Joins and meets at the two levels, and colours told by them.
-use Rattle.std.proofs.Common.{◌≡◌, ℕ, zero, suc, ◌<◌, Bool, true, false, ◌&&◌, ◌||◌, T as So, ◌⊎◌, refl, subst, inl, inr, not-suc-le-zero, arith}
+use Rattle.std.proofs.Common.{◌≡◌, ℕ, zero, suc, ◌<◌, Bool, true, false, ◌||◌, T as So, ◌⊎◌, subst, inl, inr, not-suc-le-zero, arith}
 use native.Mathlib.Decide.{ℕ_discrete}
 use Rattle.systems.specs.declared.kinds.Colour.{Colour}
-use Rattle.systems.specs.declared.kinds.Colour.TheVariants.{Undecided, F, T}
+use Rattle.systems.specs.declared.kinds.Colour.TheVariants.{F, T}
 use Rattle.colours.specs.Values.{AtMost, join, meet, negate, join_below}
 use Rattle.colours.specs.Levels.{Level, surely, possibly, counts}
 
 counts_join : (l : Level) (a b : Colour) → counts l (join a b) ≡ counts l a || counts l b
 counts_join l a b = grind arith
 
-counts_meet : (l : Level) (a b : Colour) → counts l (meet a b) ≡ counts l a && counts l b
-counts_meet l a b = grind arith
-
 or_parts : (a b : Bool) → So (a || b) → So a ⊎ So b
 or_parts true b h = inl tt
 or_parts false b h = inr h
 
-and_parts : (a b : Bool) → So (a && b) → So a × So b
-and_parts true b h = (tt, h)
-and_parts false b h = absurd h
-
 pub F_counts_not : (l : Level) → So (counts l F) → ⊥
-F_counts_not surely h = h
-F_counts_not possibly h = h
+F_counts_not l h = grind arith
 
 pub T_counts : (l : Level) → So (counts l T)
-T_counts surely = tt
-T_counts possibly = tt
+T_counts l = grind arith
 
 module _ (l : Level) where
   pub join_parts : (a b : Colour) → So (counts l (join a b)) → So (counts l a) ⊎ So (counts l b)
@@ -39,7 +30,7 @@ module _ (l : Level) where
   join_right a b h = grind arith
 
   pub meet_parts : (a b : Colour) → So (counts l (meet a b)) → So (counts l a) × So (counts l b)
-  meet_parts a b h = and_parts (counts l a) (counts l b) (subst So (counts_meet l a b) h)
+  meet_parts a b h = (grind arith, grind arith)
 
   pub meet_both : (a b : Colour) → So (counts l a) → So (counts l b) → So (counts l (meet a b))
   meet_both a b h k = grind arith
@@ -60,37 +51,14 @@ module _ (l : Level) where
 
 -- what counts at each level where the other does is at most as true as it
 pub by_levels : (a b : Colour) → ((l : Level) → So (counts l a) → So (counts l b)) → AtMost a b
-by_levels F F h = omega arith
-by_levels F Undecided h = omega arith
-by_levels F T h = omega arith
-by_levels Undecided F h = absurd (h possibly tt)
-by_levels Undecided Undecided h = omega arith
-by_levels Undecided T h = omega arith
-by_levels T F h = absurd (h surely tt)
-by_levels T Undecided h = absurd (h surely tt)
-by_levels T T h = omega arith
+by_levels a b h = let sure = h surely in let possible = h possibly in grind arith
 
 pub at_level : (l : Level) (a b : Colour) → AtMost a b → So (counts l a) → So (counts l b)
-at_level l F b h k = absurd (F_counts_not l k)
-at_level l Undecided F h k = absurd (let i = h in omega arith)
-at_level l Undecided Undecided h k = k
-at_level surely Undecided T h k = tt
-at_level possibly Undecided T h k = tt
-at_level l T F h k = absurd (let i = h in omega arith)
-at_level l T Undecided h k = absurd (let i = h in omega arith)
-at_level l T T h k = k
+at_level l a b h k = grind arith
 
 -- two colours that are at most as true as each other are the same
 pub same_truth : (a b : Colour) → AtMost a b → AtMost b a → a ≡ b
-same_truth F F h k = refl
-same_truth F Undecided h k = absurd (let i = k in omega arith)
-same_truth F T h k = absurd (let i = k in omega arith)
-same_truth Undecided F h k = absurd (let i = h in omega arith)
-same_truth Undecided Undecided h k = refl
-same_truth Undecided T h k = absurd (let i = k in omega arith)
-same_truth T F h k = absurd (let i = h in omega arith)
-same_truth T Undecided h k = absurd (let i = h in omega arith)
-same_truth T T h k = refl
+same_truth a b h k = grind arith
 
 pub negate_join : (a b : Colour) → negate (join a b) ≡ meet (negate a) (negate b)
 negate_join a b = grind arith

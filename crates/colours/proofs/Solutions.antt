@@ -1,9 +1,9 @@
 -- U is the least and V the greatest solution in truth order.
-use Rattle.std.proofs.Common.{◌≡◌, ℕ, ◌+◌, ◌<◌, sym, refl, ap, ◌∙◌, subst, arith}
+use Rattle.std.proofs.Common.{◌≡◌, ℕ, ◌+◌, ◌<◌, sym, ap, ◌∙◌, subst, arith}
 use Rattle.systems.specs.declared.kinds.Colour.{Colour}
-use Rattle.systems.specs.declared.kinds.Colour.TheVariants.{Undecided, F, T}
 use Rattle.systems.specs.Model.{Model}
 use Rattle.rules.specs.declared.syntax.Quantifier.TheVariants.{A, E}
+use Rattle.rules.specs.Formulas.{Formula}
 use Rattle.colours.specs.Values.{truth, AtMost, negate, until_value, release_value, colour_at, board_of, colour_of}
 use Rattle.colours.specs.Levels.{Level, IsUntil, IsRelease}
 use Rattle.colours.specs.Theorems.{Least, Greatest, UntilIsLeast, ReleaseIsGreatest}
@@ -12,9 +12,7 @@ use Rattle.colours.proofs.Boards.{Within, until_raise, until_rest, until_grows, 
 use Rattle.colours.proofs.Computed.{rising, falling, rising_is, falling_is, rising_A_is, falling_A_is}
 
 truth_negate : (a : Colour) → truth (negate a) + truth a ≡ 2
-truth_negate F = refl
-truth_negate Undecided = refl
-truth_negate T = refl
+truth_negate a = grind arith
 
 turn : (a b : Colour) → AtMost a b → AtMost (negate b) (negate a)
 turn a b h = omega (arith, truth_negate a, truth_negate b)
@@ -73,6 +71,10 @@ module _ (M : Model) where
           (g.1 (λ t. negate (x t)) (λ t c. subst (λ v. AtMost v (negate (x t))) (dual x t) (turn (x t) (value x t) (lower t c))) s b),
     )
 
+-- the colours of a rule with T and F exchanged
+abbrev turned : Model → Formula → ℕ → Colour
+turned M f s = negate (colour_of M f s)
+
 pub until_is_least : UntilIsLeast
 unfolding board_of rising
 until_is_least M E r q =
@@ -80,9 +82,9 @@ until_is_least M E r q =
     (rising_is M (colour_of M r) (colour_of M q))
 until_is_least M A r q =
     least_by_greatest M (until_value M A (colour_of M r) (colour_of M q))
-    (release_value M E (λ t. negate (colour_of M r t)) (λ t. negate (colour_of M q t)))
+    (release_value M E (turned M r) (turned M q))
     (λ x s. negate_until M x s (colour_of M r) (colour_of M q)) (colour_at (rising M (colour_of M r) (colour_of M q) A))
-    (release_greatest M (λ t. negate (colour_of M r t)) (λ t. negate (colour_of M q t))
+    (release_greatest M (turned M r) (turned M q)
     (λ s. negate (colour_at (rising M (colour_of M r) (colour_of M q) A) s))
     (rising_A_is M (colour_of M r) (colour_of M q)))
 
@@ -93,8 +95,8 @@ release_is_greatest M E r q =
     (falling_is M (colour_of M r) (colour_of M q))
 release_is_greatest M A r q =
     greatest_by_least M (release_value M A (colour_of M r) (colour_of M q))
-    (until_value M E (λ t. negate (colour_of M r t)) (λ t. negate (colour_of M q t)))
+    (until_value M E (turned M r) (turned M q))
     (λ x s. negate_release M x s (colour_of M r) (colour_of M q)) (colour_at (falling M (colour_of M r) (colour_of M q) A))
-    (until_least M (λ t. negate (colour_of M r t)) (λ t. negate (colour_of M q t))
+    (until_least M (turned M r) (turned M q)
     (λ s. negate (colour_at (falling M (colour_of M r) (colour_of M q) A) s))
     (falling_A_is M (colour_of M r) (colour_of M q)))

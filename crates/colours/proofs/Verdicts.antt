@@ -28,11 +28,8 @@ none_more n f h k w = elim (ℕ_discrete w.0 n)
 T_not_F : {c : Colour} → c ≡ T → c ≡ F → ⊥
 T_not_F e f = grind arith
 
-U_not_T : {c : Colour} → c ≡ Undecided → c ≡ T → ⊥
-U_not_T e f = grind arith
-
-U_not_F : {c : Colour} → c ≡ Undecided → c ≡ F → ⊥
-U_not_F e f = grind arith
+U_is_neither : {c : Colour} → c ≡ Undecided → (¬ (c ≡ T)) × (¬ (c ≡ F))
+U_is_neither e = (λ t. grind arith, λ f. grind arith)
 
 meet_told : (n : ℕ) (f : ℕ → Colour) → Told (AllT n f) (SomeF n f) (meet_below n f)
 unfolding meet_below
@@ -46,10 +43,10 @@ meet_told (suc n) f = go (meet_below n f) (f n) refl (meet_told n f)
     go F w e h = (h.0, omega (arith, h.1), h.2)
     go T F e h = (n, omega arith, e)
     go T T e h = all_more n f h e
-    go T Undecided e h = (λ a. U_not_T e (a n (omega arith)), none_more n f (λ w. T_not_F (h w.0 w.1) w.2) (U_not_F e))
+    go T Undecided e h = (λ a. (U_is_neither e).0 (a n (omega arith)), none_more n f (λ w. T_not_F (h w.0 w.1) w.2) (U_is_neither e).1)
     go Undecided F e h = (n, omega arith, e)
     go Undecided T e h = (λ a. h.0 (fewer a), none_more n f h.1 (T_not_F e))
-    go Undecided Undecided e h = (λ a. h.0 (fewer a), none_more n f h.1 (U_not_F e))
+    go Undecided Undecided e h = (λ a. h.0 (fewer a), none_more n f h.1 (U_is_neither e).1)
 
 -- the same told of statements that hold together
 told_like : {P Q P' Q' : Type 0} → (P → P') → (P' → P) → (Q → Q') → (Q' → Q) → (v : Colour) → Told P Q v → Told P' Q' v
@@ -62,12 +59,10 @@ module _ (M : Model) (f : Formula) where
   at_start s = cond (M.start s) (colour_of M f s) T
 
   start_is : (b : Bool) (v : Colour) → b ≡ true → cond b v T ≡ v
-  start_is true v e = refl
-  start_is false v e = grind arith
+  start_is b v e = grind arith
 
   start_F : (b : Bool) (v : Colour) → cond b v T ≡ F → (b ≡ true) × (v ≡ F)
-  start_F true v e = (refl, e)
-  start_F false v e = grind arith
+  start_F b v e = (grind arith, grind arith)
 
   start_T : (b : Bool) (v : Colour) → (b ≡ true → v ≡ T) → cond b v T ≡ T
   start_T true v h = h refl

@@ -12,32 +12,17 @@ use Rattle.rules.specs.declared.syntax.Clause.TheVariants.{Constant, Mark, Next 
 use Rattle.colours.specs.declared.chains.Position.{Position}
 use Rattle.colours.specs.declared.chains.Reason.{Reason}
 use Rattle.colours.specs.declared.chains.Reason.TheVariants.{UnknownMark, UnsureStep}
+use Rattle.colours.proofs.Numbers.{same_colour}
 use Rattle.engine.specs.declared.cause.looking.Finding.TheVariants.{End, Next}
 use Rattle.engine.specs.search.Looks.{shown_at, is_shown, opened, awaited, here, stepped, across, looks_of, look_of}
-
-pub number_same : (v w : Colour) → colour_number v ≡ colour_number w → v ≡ w
-number_same Undecided Undecided e = refl
-number_same Undecided F e = absurd (omega arith)
-number_same Undecided T e = absurd (omega arith)
-number_same F Undecided e = absurd (omega arith)
-number_same F F e = refl
-number_same F T e = absurd (omega arith)
-number_same T Undecided e = absurd (omega arith)
-number_same T F e = absurd (omega arith)
-number_same T T e = refl
 
 -- the test of what is shown tells the colour
 pub shown_same : (v : Colour) (o : Option Colour) → is_shown v o ≡ true → o ≡ Some v
 shown_same v None h = absurd (false≢true h)
-shown_same v (Some w) h = ap Some (number_same w v (eqb-true _ _ h))
+shown_same v (Some w) h = ap Some (same_colour w v (eqb-true _ _ h))
 
 pub same_shown : (v : Colour) (o : Option Colour) → o ≡ Some v → is_shown v o ≡ true
 same_shown v o e = ap (is_shown v) e ∙ eq-eqb (colour_number v) (colour_number v) refl
-
-pub number_shown : (v : Colour) → colour_from (colour_number v) ≡ Some v
-number_shown Undecided = refl
-number_shown F = refl
-number_shown T = refl
 
 -- undecided is shown just where the byte is 0
 pub undecided_byte : (b : ℕ) → is_shown Undecided (colour_from b) ≡ eqb b 0

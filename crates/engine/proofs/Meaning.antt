@@ -1,7 +1,8 @@
 -- What a coloured board shows is what the rule means.
 use Rattle.std.proofs.Common.{◌≡◌, ℕ, ◌+◌, ◌-◌, ◌<◌, ◌≤◌, Bool, true, false, cond, not, eqb, ◌⊎◌, List, length, Some, None, Option, sym, refl, ap, ◌∙◌, subst, subst₂, inl, inr, arith}
 use native.Mathlib.Decide.{dec_lt}
-use mathlib.Core.Bool.{false≢true}
+use Rattle.std.proofs.lemmas.Bool.{true≢false, false≢true, not-true, not_from_false, false_from_ne_true}
+use Rattle.std.proofs.lemmas.Option.{cond_some}
 use Rattle.systems.specs.declared.kinds.Step.{Step}
 use Rattle.systems.specs.declared.kinds.Step.TheVariants.{Absent, Unsure, Sure}
 use Rattle.systems.specs.declared.kinds.Colour.{Colour}
@@ -26,19 +27,19 @@ use Rattle.colours.specs.Chains.{clause_at, Looks, Shown, Awaited, colours, Open
 use Rattle.colours.proofs.Computed.{colours_shown}
 use Rattle.colours.proofs.Consistency.{one_colour}
 use Rattle.colours.proofs.Numbered.{formula_tree}
+use Rattle.colours.proofs.Numbers.{colour_back, same_colour}
 use Rattle.colours.proofs.Causes.{unknown_mark}
 use Rattle.engine.specs.declared.cause.looking.Finding.{Finding}
 use Rattle.engine.specs.declared.cause.looking.Finding.TheVariants.{End, Next}
 use Rattle.engine.specs.search.Looks.{shown_at, is_shown, opened, awaited, leads_across, sought_by, here, stepped, across, looks_of, look_of}
 use Rattle.engine.specs.search.Searches.{Inside, Passed, Seen}
-use Rattle.engine.proofs.Looks.{number_shown, shown_same, same_shown, look_here, look_across, look_to, looks_to, two_looks, Opens, here_next, here_end, stepped_next, stepped_end}
+use Rattle.engine.proofs.Looks.{shown_same, same_shown, look_here, look_across, look_to, looks_to, two_looks, Opens, here_next, here_end, stepped_next, stepped_end}
 
 not_false : (b : Bool) → ¬ (b ≡ true) → not b ≡ true
-not_false true h = absurd (h refl)
-not_false false h = refl
+not_false b h = not_from_false b (false_from_ne_true b h)
 
 not_true : (b : Bool) → not b ≡ true → ¬ (b ≡ true)
-not_true b h e = false≢true (sym (ap not e) ∙ h)
+not_true b h e = true≢false (sym e ∙ not-true b h)
 
 module _ (M : Model) (cs : List Clause) (board : List ℕ) (coloured : Coloured M cs board) where
   module _ (g c : ℕ) (low : g < M.states) (few : c < length cs) where
@@ -57,16 +58,19 @@ module _ (M : Model) (cs : List Clause) (board : List ℕ) (coloured : Coloured 
 
     -- what is shown at a position is its colour
     pub colour_shown : (v : Colour) → HasColour (colours M cs c) g v → seen ≡ Some v
-    colour_shown v h = ap colour_from (colour_byte v h) ∙ number_shown v
+    colour_shown v h = ap colour_from (colour_byte v h) ∙ colour_back v
 
     seen_is : seen ≡ Some (colour_of M (formula cs c) g)
     seen_is = colour_shown (colour_of M (formula cs c) g) coloured_at
 
-    pub shown_colour : (v : Colour) → seen ≡ Some v → HasColour (colours M cs c) g v
-    shown_colour v e = subst (HasColour (colours M cs c) g) (cc seen_is) coloured_at
-
     pub byte_colour : (v : Colour) → byte ≡ colour_number v → HasColour (colours M cs c) g v
-    byte_colour v e = shown_colour v (ap colour_from e ∙ number_shown v)
+    byte_colour v e =
+        subst (HasColour (colours M cs c) g) (same_colour (colour_of M (formula cs c) g) v (sym (coloured.shows g c low few) ∙ e)) coloured_at
+
+    pub shown_colour : (v : Colour) → seen ≡ Some v → HasColour (colours M cs c) g v
+    shown_colour v e =
+        let same : colour_of M (formula cs c) g ≡ v = cc seen_is in
+        byte_colour v (coloured.shows g c low few ∙ ap colour_number same)
 
     test_colour : (v : Colour) → is_shown v seen ≡ true → HasColour (colours M cs c) g v
     test_colour v h = shown_colour v (shown_same v seen h)
@@ -138,10 +142,6 @@ module _ (M : Model) (cs : List Clause) (board : List ℕ) (coloured : Coloured 
 
   open_shown_at : (n : Position) → Open M cs n → shown_at (length cs) board n.group n.clause ≡ Some Undecided
   open_shown_at n o = colour_shown n.group n.clause o.0 o.1 Undecided o.2
-
-cond_some : (b : Bool) (x y : ℕ) → cond b (Some x) None ≡ Some y → (b ≡ true) × (x ≡ y)
-cond_some true x y e = (refl, (cc))
-cond_some false x y e = cc
 
 -- the looks from p, which has the clause c
 module _ (M : Model) (cs : List Clause) (board : List ℕ) (p : Position) (c : Clause) where

@@ -1,8 +1,8 @@
 -- The steps of a search keep what it keeps.
 use Rattle.std.proofs.Common.{◌≡◌, ℕ, suc, ◌+◌, ◌*◌, ◌<◌, ◌≤◌, ◌⊎◌, List, [], ◌∷◌, ◌++◌, length, set, Some, None, Option, sym, ap, ◌∙◌, subst, inl, inr, not-suc-le-zero, arith, length-set}
 use native.Mathlib.Decide.{ℕ_discrete}
-use Rattle.std.proofs.ByRecursion.{All-push, All-weaker}
 use Rattle.std.proofs.lemmas.List.{length_push}
+use Rattle.std.proofs.lemmas.List.Elements.{All-from_recursion, recursion_from_All, All-push, All-weaker}
 use Rattle.colours.specs.declared.chains.Position.{Position}
 use Rattle.colours.specs.declared.chains.Reason.{Reason}
 use Rattle.engine.specs.declared.links.Link.{Link}
@@ -132,9 +132,9 @@ spread_fresh m start from k table waiting n s b way low new =
     record {
       rooted = fresh_rooted m start table n from s.here low new s.rooted;
       led = fresh_led m start table n from s.here low new s.rooted.1.wide s.led (k, b, way);
-      known = All-push (λ l. Known m t' l.at) waiting link
-          (All-weaker (λ l. Known m table l.at) (λ l. Known m t' l.at) (λ l h. (h.0, stays l.at h.1)) waiting s.known)
-          (low, (from, before_same C table n from bound));
+      known = recursion_from_All (λ l. Known m t' l.at) (waiting ++ link ∷ []) (All-push (λ l. Known m t' l.at) waiting link
+          (All-weaker (λ l. Known m table l.at) (λ l. Known m t' l.at) (λ l h. (h.0, stays l.at h.1)) waiting (All-from_recursion (λ l. Known m table l.at) waiting s.known))
+          (low, (from, before_same C table n from bound)));
       here = (s.here.0, stays from s.here.1);
       tried = tried_more m t' k from (λ j h. passed_stays C table n from bound (m.look from j) (s.tried j h))
           (subst (Passed C t') (sym way) (from, before_same C table n from bound));

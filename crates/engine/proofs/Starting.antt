@@ -1,6 +1,6 @@
 -- The lowest start group that the board shows undecided is the one where a cause begins.
-use Rattle.std.proofs.Common.{◌≡◌, ℕ, ◌-◌, ◌<◌, ◌≤◌, Bool, true, false, ◌&&◌, eqb, List, length, slice_index, Some, None, Option, sym, refl, ap, ◌∙◌, subst, arith}
-use mathlib.Core.Bool.{false≢true}
+use Rattle.std.proofs.Common.{◌≡◌, ℕ, ◌-◌, ◌<◌, ◌≤◌, true, ◌&&◌, eqb, List, length, slice_index, Some, None, Option, sym, refl, ap, ◌∙◌, subst, arith}
+use Rattle.std.proofs.lemmas.Bool.{false≢true, and_parts}
 use Rattle.systems.specs.declared.kinds.Colour.TheVariants.{Undecided}
 use Rattle.systems.specs.Model.{Model, Starts}
 use Rattle.rules.specs.declared.syntax.Clause.{Clause}
@@ -19,10 +19,6 @@ use Rattle.engine.specs.search.Starts.{LowestShown, ChainTold, ChainFound}
 use Rattle.engine.proofs.Meaning.{colour_shown, shown_colour}
 use Rattle.engine.proofs.Looks.{shown_same, same_shown, undecided_byte}
 
-both : (a b : Bool) → a && b ≡ true → (a ≡ true) × (b ≡ true)
-both true b h = (refl, h)
-both false b h = absurd (false≢true h)
-
 module _ (M : Model) (cs : List Clause) (board : List ℕ) (some : 1 ≤ length cs) (coloured : Coloured M cs board) where
   abbrev rule_at : ℕ → Position
   rule_at g = record { group = g; clause = length cs - 1 }
@@ -32,7 +28,7 @@ module _ (M : Model) (cs : List Clause) (board : List ℕ) (some : 1 ≤ length 
 
   shown_open : (g : ℕ) → g < M.states → open_start M (length cs) board g ≡ true → Starts M g × Open M cs (rule_at g)
   shown_open g low e =
-      let t = both (M.start g) (eqb (slice_index board (place (length cs) g (length cs - 1))) 0) e in
+      let t = and_parts (M.start g) (eqb (slice_index board (place (length cs) g (length cs - 1))) 0) e in
       let o = shown_same Undecided (shown_at (length cs) board g (length cs - 1)) (byte_shown g ∙ t.1) in
       ((low, t.0), (low, omega arith, shown_colour M cs board coloured g (length cs - 1) low (omega arith) Undecided o))
 

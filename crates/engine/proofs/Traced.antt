@@ -1,20 +1,15 @@
 -- The way back, step by step, and its positions written in order.
 use Rattle.std.proofs.Common.{◌≡◌, ℕ, suc, ◌+◌, ◌<◌, List, [], ◌∷◌, ◌++◌, map, reverse, length, take, drop, set, Some, Option, sym, refl, ap, ◌∙◌, inl, inr, add-one, arith, length-set}
+use mathlib.Core.List.{reverse-cons}
 use Rattle.std.specs.List.{AllByRecursion}
-use Rattle.std.proofs.ByRecursion.{All-weaker}
 use Rattle.std.proofs.lemmas.List.{append_assoc, length_push, length-reverse, length-map, reverse-append, map_push, drop-set, reverse-reverse}
 use Rattle.colours.specs.declared.chains.Position.{Position}
 use Rattle.colours.specs.Walks.{Among}
+use Rattle.colours.proofs.Lists.{all_weaker}
 use Rattle.engine.specs.declared.links.Link.{Link}
 use Rattle.engine.specs.search.Searches.{place_of, before}
 use Rattle.engine.specs.search.Traces.{Tracing, Traced, Writing, position_in, some_position}
 use Rattle.engine.proofs.Tables.{place_same}
-
-reverse_more : {X : Type 0} (x : X) (xs : List X) → reverse (x ∷ xs) ≡ reverse xs ++ x ∷ []
-reverse_more x xs = reverse-append (x ∷ []) xs
-
-reverse_push : {X : Type 0} (xs : List X) (x : X) → reverse (xs ++ x ∷ []) ≡ x ∷ reverse xs
-reverse_push xs x = reverse-append xs (x ∷ [])
 
 -- one link more is taken out of the queue and written
 pub writing_more : (all : List Link) (l : Link) (kept : List Link) (list : List (Option Position)) → Writing all (l ∷ kept) list
@@ -32,7 +27,7 @@ writing_more all l kept list w =
           ∙ ap (take (suc (length w.done))) (drop-set list (length kept) (some_position l) low)
           ∙ ap (λ n. some_position l ∷ take (length w.done) (drop n list)) next
           ∙ ap (λ x. some_position l ∷ x) w.written
-          ∙ sym (ap (map some_position) (reverse_push w.done l));
+          ∙ sym (ap (map some_position) (reverse-append w.done (l ∷ [])));
     }
 
 -- what has a lower rank than each of a list stands not in it
@@ -51,7 +46,7 @@ module _ (G C : ℕ) (start end : Position) (table : List (Option Position)) (pl
           → Tracing G C start end table places from kept'
       tracing_more kept' f =
           let b = t.ranked.back at from t.inside.0 e off_start in
-          let higher = All-weaker (λ p. t.rank (place_of C at) < t.rank (place_of C p)) (λ p. t.rank (place_of C from) < t.rank (place_of C p))
+          let higher = all_weaker (λ p. t.rank (place_of C at) < t.rank (place_of C p)) (λ p. t.rank (place_of C from) < t.rank (place_of C p))
           (λ p h. omega (arith, h, b.2)) t.rest t.rising in
           record {
             rank = t.rank;
@@ -67,7 +62,7 @@ module _ (G C : ℕ) (start end : Position) (table : List (Option Position)) (pl
             distinct = (not_among t.rank C from (at ∷ t.rest) (b.2, higher), t.distinct);
             are =
                 ap (map position_in) f ∙ map_push position_in kept (record { at = at; from = from }) ∙ ap (λ x. x ++ at ∷ []) t.are
-                ∙ sym (reverse_more at t.rest);
+                ∙ sym (reverse-cons at t.rest);
             fits = omega (arith, t.fits, b.2);
           }
 
@@ -84,7 +79,7 @@ module _ (G C : ℕ) (start end : Position) (table : List (Option Position)) (pl
         distinct = t.distinct;
         are =
             ap (map position_in) f ∙ map_push position_in kept (record { at = start; from = start }) ∙ ap (λ x. x ++ start ∷ []) t.are
-            ∙ sym (reverse_more start t.rest);
+            ∙ sym (reverse-cons start t.rest);
         fits = omega (arith, t.fits);
       }
 
@@ -95,7 +90,7 @@ map_some (l ∷ ls) = ap (λ x. some_position l ∷ x) (map_some ls)
 map_reverse : {X Y : Type 0} (f : X → Y) (xs : List X) → map f (reverse xs) ≡ reverse (map f xs)
 map_reverse f [] = refl
 map_reverse f (x ∷ xs) =
-    ap (map f) (reverse_more x xs) ∙ map_push f (reverse xs) x ∙ ap (λ l. l ++ f x ∷ []) (map_reverse f xs) ∙ sym (reverse_more (f x) (map f xs))
+    ap (map f) (reverse-cons x xs) ∙ map_push f (reverse xs) x ∙ ap (λ l. l ++ f x ∷ []) (map_reverse f xs) ∙ sym (reverse-cons (f x) (map f xs))
 
 module _ (G C : ℕ) (start end : Position) (table : List (Option Position)) (kept : List Link) (t : Traced G C start end table kept) where
   -- what was traced, taken out the last first, is the way from the start

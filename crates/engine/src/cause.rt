@@ -19,7 +19,8 @@ mod tracing;
 // Seeks what leaves the rule undecided on a coloured board: a chain from the lowest start group where
 // it is undecided, which is then written into the first places of the chain list. Answers what the chain
 // ends in and its length; or none where a workspace has fewer places than there are positions or no
-// start group is undecided, and then leaves the links and the chain list as they were.
+// start group is undecided, and then leaves the links and the chain list as they were. One answer for these:
+// who calls has tested the workspaces before, or lends ones that are always large enough.
 pub fn find_cause(
     table: &Table,
     rule: &Rule,

@@ -2,9 +2,9 @@
 use Rattle.std.proofs.Common.{◌≡◌, ℕ, ◌<◌, Bool, true, false, cond, ◌&&◌, ◌||◌, eqb, List, [], ◌∷◌, map, filter, replicate, get_or, unwrap_or, sym, refl, ap, ◌∙◌, arith, zero, suc, ◌+◌, ◌*◌, ◌++◌, length, set, Some, None, Option, add-one, get_or-set_other, get_or-set_same}
 use native.Mathlib.Decide.{ℕ_discrete}
 use Rattle.std.specs.List.{fold, flat_map, reduce, list_all, list_any, range_with_len}
-use Rattle.std.proofs.Math.Bool.{and_assoc}
+use Rattle.std.proofs.Math.Bool.{and-true, and_assoc}
 use Rattle.std.proofs.Math.Nat.{zero-mul, suc-mul}
-use Rattle.std.proofs.lemmas.Bool.{both_ways, and_parts, eq-eqb, ne_eqb, cond-true, cond-false}
+use Rattle.std.proofs.lemmas.Bool.{and_parts, eq-eqb, ne_eqb, cond-true, cond-false}
 use Rattle.std.proofs.lemmas.List.{get_or-replicate, length-replicate, get_or_append_left, get_or-append-add}
 use Rattle.std.proofs.lemmas.List.FromFn.{get_or-map-range_with_len, length-map-range_with_len}
 use Rattle.systems.specs.Below.{all_below}
@@ -33,56 +33,34 @@ pub record Kind (X : Type 0) : Type 0 where
 
 -- for steps, and for marks
 pub sure_of : (p q : Bool) → is_sure (cond p Sure (cond q Absent Unsure)) ≡ p
-sure_of true q = refl
-sure_of false true = refl
-sure_of false false = refl
+sure_of p q = grind arith
 
 pub absent_of : (p q : Bool) → (p ≡ true → q ≡ true → ⊥) → is_absent (cond p Sure (cond q Absent Unsure)) ≡ q
-absent_of true true n = absurd (n refl refl)
-absent_of true false n = refl
-absent_of false true n = refl
-absent_of false false n = refl
+absent_of p q n = grind arith
 
 pub sure_or_absent : (k : Step) → is_sure k ≡ true → is_absent k ≡ true → ⊥
-sure_or_absent Absent a b = both_ways true (sym a) refl
-sure_or_absent Unsure a b = both_ways true (sym a) refl
-sure_or_absent Sure a b = both_ways true (sym b) refl
+sure_or_absent k a b = grind arith
 
 pub step_alone : (k : Step) → cond (is_sure k) Sure (cond (is_absent k) Absent Unsure) ≡ k
-step_alone Absent = refl
-step_alone Unsure = refl
-step_alone Sure = refl
+step_alone k = grind arith
 
 abbrev pub steps : Kind Step
 steps = record { is_one = is_sure; is_other = is_absent; one = Sure; other = Absent; mixed = Unsure; one_of = sure_of; other_of = absent_of; apart = sure_or_absent; alone = step_alone }
 
 pub true_of : (p q : Bool) → is_true (cond p T (cond q F Undecided)) ≡ p
-true_of true q = refl
-true_of false true = refl
-true_of false false = refl
+true_of p q = grind arith
 
 pub false_of : (p q : Bool) → (p ≡ true → q ≡ true → ⊥) → is_false (cond p T (cond q F Undecided)) ≡ q
-false_of true true n = absurd (n refl refl)
-false_of true false n = refl
-false_of false true n = refl
-false_of false false n = refl
+false_of p q n = grind arith
 
 pub true_or_false : (v : Colour) → is_true v ≡ true → is_false v ≡ true → ⊥
-true_or_false Undecided a b = both_ways true (sym a) refl
-true_or_false F a b = both_ways true (sym a) refl
-true_or_false T a b = both_ways true (sym b) refl
+true_or_false v a b = grind arith
 
 pub mark_alone : (v : Colour) → cond (is_true v) T (cond (is_false v) F Undecided) ≡ v
-mark_alone Undecided = refl
-mark_alone F = refl
-mark_alone T = refl
+mark_alone v = grind arith
 
 abbrev pub marks : Kind Colour
 marks = record { is_one = is_true; is_other = is_false; one = T; other = F; mixed = Undecided; one_of = true_of; other_of = false_of; apart = true_or_false; alone = mark_alone }
-
-and_true : (b : Bool) → b ≡ (b && true)
-and_true true = refl
-and_true false = refl
 
 -- all elements of a list that are answers of members
 all_kept : {X : Type 0} (test : X → Bool) (member : ℕ → Bool) (f : ℕ → X) (ss : List ℕ) → list_all test (map f (filter member ss)) ≡ list_all (λ s. cond (member s) (test (f s)) true) ss
@@ -107,20 +85,19 @@ module _ {X : Type 0} (kind : Kind X) where
   abbrev join : X → X → X
   join a x = pick (kind.is_one a && kind.is_one x) (kind.is_other a && kind.is_other x)
 
-  -- a list of answers is joined to one just where all are that one
+  -- what a join keeps just where both have it, a list of answers keeps just where all have it
+  all_joined : (test : X → Bool) → ((a x : X) → test (join a x) ≡ (test a && test x)) → (a : X) (xs : List X) → test (fold join a xs) ≡ (test a && list_all test xs)
+  all_joined test both a [] = sym (and-true (test a))
+  all_joined test both a (x ∷ xs) =
+      all_joined test both (join a x) xs ∙ ap (λ (b : Bool). b && list_all test xs) (both a x) ∙ and_assoc (test a) (test x) (list_all test xs)
+
   all_one : (a : X) (xs : List X) → kind.is_one (fold join a xs) ≡ (kind.is_one a && list_all kind.is_one xs)
-  all_one a [] = and_true (kind.is_one a)
-  all_one a (x ∷ xs) =
-      all_one (join a x) xs
-      ∙ ap (λ (b : Bool). b && list_all kind.is_one xs) (kind.one_of (kind.is_one a && kind.is_one x) (kind.is_other a && kind.is_other x))
-      ∙ and_assoc (kind.is_one a) (kind.is_one x) (list_all kind.is_one xs)
+  all_one = all_joined kind.is_one (λ a x. kind.one_of (kind.is_one a && kind.is_one x) (kind.is_other a && kind.is_other x))
 
   all_other : (a : X) (xs : List X) → kind.is_other (fold join a xs) ≡ (kind.is_other a && list_all kind.is_other xs)
-  all_other a [] = and_true (kind.is_other a)
-  all_other a (x ∷ xs) =
-      all_other (join a x) xs
-      ∙ ap (λ (b : Bool). b && list_all kind.is_other xs) (kind.other_of (kind.is_one a && kind.is_one x) (kind.is_other a && kind.is_other x) (λ e k. kind.apart a (and_parts _ _ e).0 (and_parts _ _ k).0))
-      ∙ and_assoc (kind.is_other a) (kind.is_other x) (list_all kind.is_other xs)
+  all_other =
+      all_joined kind.is_other
+      (λ a x. kind.other_of (kind.is_one a && kind.is_one x) (kind.is_other a && kind.is_other x) (λ e k. kind.apart a (and_parts _ _ e).0 (and_parts _ _ k).0))
 
   joined_is : (xs : List X) → unwrap_or (reduce join xs) kind.one ≡ pick (list_all kind.is_one xs) (list_all kind.is_other xs)
   joined_is [] = refl
@@ -244,8 +221,7 @@ module _ {X : Type 0} (join : X → X → X) (member : ℕ → Bool) (f : ℕ �
       ]
 
   some_cond : (b : Bool) (x y : X) → Some (cond b x y) ≡ cond b (Some x) (Some y)
-  some_cond true x y = refl
-  some_cond false x y = refl
+  some_cond b x y = grind arith
 
   reduce_last : (ss : List ℕ) (j : ℕ) → reduce join (chosen (ss ++ j ∷ [])) ≡ cond (member j) (Some (joined_with join (reduce join (chosen ss)) (f j))) (reduce join (chosen ss))
   reduce_last [] j = elim (member j) as (λ b. reduce join (map f (cond b (j ∷ []) [])) ≡ cond b (Some (f j)) None) [ true ↦ refl | false ↦ refl ]

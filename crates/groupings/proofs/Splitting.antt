@@ -1,19 +1,15 @@
 -- Flagging the members that do not answer as the lowest-numbered one does splits the group as it should.
-use Rattle.std.proofs.Common.{◌≡◌, ℕ, zero, suc, ◌+◌, ◌<◌, ◌≤◌, ◌⊎◌, Decides, Bool, true, false, List, [], ◌∷◌, length, Option, Some, None, Ok, sym, refl, ap, ◌∙◌, subst, inl, inr, ⊎_elim, add-one, arith}
+use Rattle.std.proofs.Common.{◌≡◌, ℕ, zero, suc, ◌+◌, ◌<◌, ◌≤◌, Decides, Bool, true, false, List, [], ◌∷◌, length, Option, Some, None, Ok, sym, refl, ap, ◌∙◌, subst, ⊎_elim, add-one, arith}
 use Rattle.std.specs.List.{list_any}
 use Rattle.std.specs.Option.{ok_or}
 use Rattle.std.proofs.lemmas.Bool.{cases_Bool, cases_eq, cases_lt, both_ways, eq-eqb, cond-true, cond-false}
 use Rattle.std.proofs.lemmas.Bool.Decides.{Decides-like}
 use Rattle.std.proofs.lemmas.List.{get_or_past}
 use Rattle.systems.specs.Model.{Model}
-use Rattle.systems.specs.Numbers.{step_number, step_from, colour_number, colour_from}
-use Rattle.systems.specs.declared.kinds.Step.{Step}
-use Rattle.systems.specs.declared.kinds.Step.TheVariants.{Absent, Unsure, Sure}
-use Rattle.systems.specs.declared.kinds.Colour.{Colour}
-use Rattle.systems.specs.declared.kinds.Colour.TheVariants.{Undecided, F, T}
 use Rattle.colours.specs.Groupings.{Alike, group_named, strength}
 use Rattle.colours.specs.declared.chains.Reason.{Reason}
 use Rattle.colours.specs.declared.chains.Reason.TheVariants.{UnknownMark, UnsureStep}
+use Rattle.colours.proofs.Numbers.{same_colour?, same_step?}
 use Rattle.systems.proofs.Questions.{mark_in_range}
 use Rattle.groupings.specs.Answers.{answer_of}
 use Rattle.groupings.specs.Joined.{asked}
@@ -25,22 +21,6 @@ use Rattle.groupings.specs.laws.GroupLaws.{states_are}
 use Rattle.groupings.specs.declared.groups.answers.Answer.TheVariants.{Mark, Strength}
 use Rattle.groupings.specs.declared.members.Membership.{Membership}
 use Rattle.groupings.specs.Splits.{Within, Concerned, MembersDiffer, Divided, Told}
-
-step_back : (k : Step) → step_from (step_number k) ≡ Some k
-step_back Absent = refl
-step_back Unsure = refl
-step_back Sure = refl
-
-colour_back : (v : Colour) → colour_from (colour_number v) ≡ Some v
-colour_back Undecided = refl
-colour_back F = refl
-colour_back T = refl
-
-same_step : (a b : Step) → step_number a ≡ step_number b → a ≡ b
-same_step a b e = let both : Some a ≡ Some b = sym (step_back a) ∙ ap step_from e ∙ step_back b in cc
-
-same_colour : (a b : Colour) → colour_number a ≡ colour_number b → a ≡ b
-same_colour a b e = let both : Some a ≡ Some b = sym (colour_back a) ∙ ap colour_from e ∙ colour_back b in cc
 
 -- a flag among the flags
 found_flag : (flags : List Bool) → list_any (λ b. b) flags ≡ true → (s : ℕ) × (flagged flags s ≡ true)
@@ -63,15 +43,15 @@ module _ (M : Model) (group : ℕ → ℕ) where
   told_alike (UnknownMark g p) s t e = cc
   told_alike (UnsureStep g h) s t e = cc
 
-  alike_or_not : (reason : Reason) (s t : ℕ) → Alike M group reason s t ⊎ (¬ Alike M group reason s t)
-  alike_or_not (UnknownMark g p) s t = ⊎_elim (λ e. inl (same_colour _ _ e)) (λ n. inr (λ e. n (ap colour_number e))) (cases_eq (colour_number (M.mark s p)) (colour_number (M.mark t p)))
-  alike_or_not (UnsureStep g h) s t = ⊎_elim (λ e. inl (same_step _ _ e)) (λ n. inr (λ e. n (ap step_number e))) (cases_eq (step_number (strength M group s h)) (step_number (strength M group t h)))
+  pub alike? : (reason : Reason) (s t : ℕ) → Dec (Alike M group reason s t)
+  alike? (UnknownMark g p) s t = same_colour? (M.mark s p) (M.mark t p)
+  alike? (UnsureStep g h) s t = same_step? (strength M group s h) (strength M group t h)
 
-  through : (reason : Reason) (l s t : ℕ) → Alike M group reason l s → Alike M group reason l t → Alike M group reason s t
+  pub through : (reason : Reason) (l s t : ℕ) → Alike M group reason l s → Alike M group reason l t → Alike M group reason s t
   through (UnknownMark g p) l s t a b = sym a ∙ b
   through (UnsureStep g h) l s t a b = sym a ∙ b
 
-  itself : (reason : Reason) (s : ℕ) → Alike M group reason s s
+  pub itself : (reason : Reason) (s : ℕ) → Alike M group reason s s
   itself (UnknownMark g p) s = refl
   itself (UnsureStep g h) s = refl
 
@@ -115,10 +95,10 @@ module _ (M : Model) (reason : Reason) (xs : List ℕ) (flags : List Bool) (fits
   pub none_differ : list_any (λ b. b) flags ≡ false → ¬ MembersDiffer M reason xs
   none_differ none differ =
       let as_lead : (s : ℕ) → Concerned M reason xs s → Alike M (group_of xs) reason told.lead s = λ s m.
-      ⊎_elim
-      (λ a. a)
-      (λ n. absurd (both_ways (list_any (λ b. b) flags) none (flag_found flags s ((told.at s).1 (m, n)))))
-      (alike_or_not M (group_of xs) reason told.lead s) in
+      elim (alike? M (group_of xs) reason told.lead s) [
+        | yes a ↦ a
+        | no n ↦ absurd (both_ways (list_any (λ b. b) flags) none (flag_found flags s ((told.at s).1 (m, n))))
+      ] in
       differ.4 (through M (group_of xs) reason told.lead differ.0 differ.1 (as_lead differ.0 differ.2) (as_lead differ.1 differ.3))
 
   -- where one is flagged, two differ

@@ -1,44 +1,27 @@
 -- The strengths of a state: the greatest steps to the members of the groups.
-use Rattle.std.proofs.Common.{◌≡◌, ℕ, zero, suc, ◌+◌, ◌<◌, Bool, true, false, cond, eqb, List, [], ◌∷◌, length, map, filter, get_or, set, Option, unwrap_or, sym, refl, ap, ◌∙◌, subst, ⊎_elim, add-one, arith, get_or-set_other, get_or-set_same}
+use Rattle.std.proofs.Common.{◌≡◌, ℕ, zero, suc, ◌+◌, ◌<◌, Bool, true, false, cond, eqb, List, [], ◌∷◌, length, map, filter, get_or, set, Option, unwrap_or, sym, refl, ap, ◌∙◌, subst, ⊎_elim, add-one, arith, get_or-set_other}
 use native.Mathlib.Decide.{ℕ_discrete}
 use Rattle.std.specs.List.{fold, reduce, range_with_len}
 use Rattle.std.specs.Ordering.{ord_max, max_by_ordering}
 use Rattle.std.proofs.lemmas.Bool.{cases_Bool, eq-eqb, ne_eqb}
+use Rattle.std.proofs.lemmas.Grind.{get_or-set_at}
 use Rattle.systems.specs.Model.{Model}
 use Rattle.systems.specs.contracts.kinds.StepOrd.TheImpl.{ghosts}
 use Rattle.systems.specs.declared.kinds.Step.{Step}
-use Rattle.systems.specs.declared.kinds.Step.TheVariants.{Absent, Unsure, Sure}
+use Rattle.systems.specs.declared.kinds.Step.TheVariants.{Absent}
 use Rattle.systems.proofs.Questions.{step_in_range}
 use Rattle.colours.specs.Groupings.{surer, surest, step_into, strength}
 use Rattle.groupings.specs.Joined.{asked}
 
 surer_absent : (k : Step) → surer k Absent ≡ k
-surer_absent Absent = refl
-surer_absent Unsure = refl
-surer_absent Sure = refl
+surer_absent k = grind arith
 
 -- the greater of two steps, of which a search for the greatest takes the later one where they are equal
 pub max_is : (a b : Step) → ord_max ghosts.cmp a b ≡ surer a b
-max_is Absent Absent = refl
-max_is Absent Unsure = refl
-max_is Absent Sure = refl
-max_is Unsure Absent = refl
-max_is Unsure Unsure = refl
-max_is Unsure Sure = refl
-max_is Sure Absent = refl
-max_is Sure Unsure = refl
-max_is Sure Sure = refl
+max_is a b = grind arith
 
 pub later_max_is : (a b : Step) → max_by_ordering (ghosts.cmp a b) a b ≡ surer a b
-later_max_is Absent Absent = refl
-later_max_is Absent Unsure = refl
-later_max_is Absent Sure = refl
-later_max_is Unsure Absent = refl
-later_max_is Unsure Unsure = refl
-later_max_is Unsure Sure = refl
-later_max_is Sure Absent = refl
-later_max_is Sure Unsure = refl
-later_max_is Sure Sure = refl
+later_max_is a b = grind arith
 
 surest_same : (a b : ℕ → Step) (n : ℕ) → ((t : ℕ) → t < n → a t ≡ b t) → surest a n ≡ surest b n
 surest_same a b zero same = refl
@@ -105,7 +88,7 @@ module _ (M : Model) (group : ℕ → ℕ) (s h t : ℕ) (best : Step) (is : bes
       cc
 
 get_d_set_at : {X : Type 0} (xs : List X) (i : ℕ) (v d : X) (k : ℕ) → k ≡ i → i < length xs → get_or (set xs i v) k d ≡ v
-get_d_set_at xs i v d k e low = ap (λ (j : ℕ). get_or (set xs i v) j d) e ∙ get_or-set_same xs i v d low
+get_d_set_at xs i v d k = get_or-set_at xs i k v d
 
 -- a row of strengths after the steps to t states
 module _ (M : Model) (group : ℕ → ℕ) (s : ℕ) where

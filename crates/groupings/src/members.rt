@@ -7,7 +7,7 @@ mod moving;
 
 // Each state has the number of its group, each number is below the number of groups, and each
 // group has a member. Places beyond the number of states are not used; an array has them, so that
-// making groups never fails for want of memory.
+// making groups never fails for want of memory, and no `ArrayVec`, which is not `Copy`.
 #[derive(Clone, Copy)]
 pub struct Membership {
     numbers: [u8; 128],

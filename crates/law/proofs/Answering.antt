@@ -20,7 +20,7 @@ use Rattle.groupings.specs.Splits.{MembersDiffer, Concerned, Divided}
 use Rattle.law.specs.Ledgers.{Ledger, model, places, verdict, colour_at_state, Sound, ColouredBytes}
 use Rattle.law.specs.Calls.{Call, set_rule, regroup, judge, look, cause, split, refused, done, judged, looked, caused, Reply, count_of, AllHold, conditions, Accepted, Refused, accepts, refuses}
 use Rattle.law.specs.Theorems.{Answerable}
-use Rattle.law.proofs.Soundness.{alike?}
+use Rattle.groupings.proofs.Splitting.{alike?}
 use Rattle.law.proofs.Causing.{undecided_verdict}
 use Rattle.law.proofs.Deciding.{concerned?, all_or_first}
 
@@ -61,7 +61,7 @@ module _ (M : Model) (l : Ledger) where
         × (Concerned M slip l.groups s → ¬ Alike M (group_of l.groups) slip lead.0 s → n ≡ group_count l.groups)
     moved s = elim (concerned? M l slip s) [
       | no k ↦ (group_of l.groups s, (λ k. refl), (λ c a. refl), λ c n. absurd (k c))
-      | yes c ↦ elim (alike? M l.groups slip lead.0 s) [
+      | yes c ↦ elim (alike? M (group_of l.groups) slip lead.0 s) [
         | yes a ↦ (group_of l.groups s, (λ k. refl), (λ c a. refl), λ c n. absurd (n a))
         | no n ↦ (group_count l.groups, (λ k. absurd (k c)), (λ c a. absurd (n a)), λ c n. refl)
       ]

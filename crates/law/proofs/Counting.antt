@@ -1,11 +1,15 @@
 -- Lists of groups: how many numbers stand in them.
-use Rattle.std.proofs.Common.{◌≡◌, ℕ, zero, suc, ◌+◌, ◌-◌, ◌<◌, ◌≤◌, List, [], ◌∷◌, length, replicate, sym, ap, ◌∙◌, inl, inr, arith}
+use Rattle.std.proofs.Common.{◌≡◌, ℕ, ◌+◌, ◌-◌, ◌<◌, ◌≤◌, List, length, replicate, sym, ap, ◌∙◌, inl, inr, arith}
 use native.Mathlib.Decide.{ℕ_discrete}
 use Rattle.std.specs.List.{remove}
 use Rattle.std.proofs.lemmas.List.Edits.{length-remove, get_or-remove_below, get_or-remove_above}
 use Rattle.std.proofs.lemmas.List.{length-replicate, get_or-replicate}
 use Rattle.std.proofs.lemmas.Bool.Decides.{leb_tells}
-use Rattle.groupings.specs.Members.{group_of, largest, group_count}
+use Rattle.groupings.specs.Members.{group_of, group_count}
+use Rattle.std.proofs.lemmas.Bool.{cases_lt}
+use Rattle.std.proofs.lemmas.List.{get_or_past}
+use Rattle.groupings.specs.laws.GroupLaws.{largest_above, count_is as counted}
+use Rattle.groupings.proofs.Pigeons.{enough}
 
 -- the number g stands at place s
 abbrev pub Lies : List ℕ → ℕ → ℕ → Type 0
@@ -35,13 +39,7 @@ stays_used xs k j g lk lies ne =
 
 -- a list in which each number below n stands has n places or more
 pub onto_length : (n : ℕ) (xs : List ℕ) → Onto n xs → n ≤ length xs
-onto_length zero xs o = omega arith
-onto_length (suc n) xs o =
-    let u = o n (omega arith) in
-    let rest : Onto n (remove xs u.0) = λ g l.
-    let w = o g (omega arith) in
-    stays_used xs u.0 w.0 g u.1 (w.1, w.2) (λ s. let same = ap (group_of xs) s in omega (arith, same, u.2, w.2)) in
-    omega (arith, onto_length n (remove xs u.0) rest, length-remove xs u.0 u.1)
+onto_length n xs = enough (group_of xs) n (length xs)
 
 -- with no more places than numbers, no number stands twice
 pub onto_single : (xs : List ℕ) → Onto (length xs) xs → (g i j : ℕ) → Lies xs g i → Lies xs g j → i ≡ j
@@ -62,28 +60,15 @@ onto_single xs o g i j a b = elim (ℕ_discrete i j) [ yes e ↦ e | no d ↦ ab
         let there = b.0 in
         omega arith
 
-largest_tops : (xs : List ℕ) (k : ℕ) → group_of xs k ≤ largest xs
-largest_tops [] k = omega arith
-largest_tops (x ∷ xs) zero = omega arith
-largest_tops (x ∷ xs) (suc k) = omega (arith, largest_tops xs k)
-
 pub below_count : (xs : List ℕ) (s : ℕ) → group_of xs s < group_count xs
-below_count xs s = omega (arith, largest_tops xs s)
-
-least_top : (n : ℕ) (xs : List ℕ) → Below (n + 1) xs → largest xs ≤ n
-least_top n [] b = omega arith
-least_top n (x ∷ xs) b =
-    let h : x < n + 1 = b 0 (omega arith) in
-    let t = least_top n xs (λ k l. b (suc k) (omega arith)) in
-    omega arith
+below_count xs s = elim (cases_lt s (length xs)) [
+  | inl low ↦ omega (arith, largest_above xs s low)
+  | inr past ↦ omega (arith, get_or_past xs s 0 past)
+]
 
 -- the count of a list whose numbers are those up to n
 pub count_is : (n : ℕ) (xs : List ℕ) → Below (n + 1) xs → Onto (n + 1) xs → group_count xs ≡ n + 1
-count_is n xs b o =
-    let up = least_top n xs b in
-    let u = o n (omega arith) in
-    let down : n ≤ largest xs = omega (arith, u.2, largest_tops xs u.0) in
-    omega arith
+count_is n xs b o = let u = o n (omega arith) in counted xs (n + 1) b u.0 u.1 (omega (arith, u.2))
 
 pub zeros_below : (n : ℕ) → Below 1 (replicate n 0)
 zeros_below n k h = let e : k < n = rw length-replicate at h in omega (arith, get_or-replicate {A = ℕ} n k 0 0 e)

@@ -18,8 +18,8 @@ use Rattle.groupings.specs.Members.{group_of, group_count, OneForEach, AllUsed}
 use Rattle.groupings.specs.Splits.{Exists, MembersDiffer, Concerned}
 use Rattle.law.specs.Ledgers.{Ledger, places, verdict}
 use Rattle.law.specs.Calls.{Call, set_rule, regroup, judge, look, cause, split, Condition, Roomy, AllHold, FirstFailing, conditions}
-use Rattle.law.proofs.Numbers.{same_colour?}
-use Rattle.law.proofs.Soundness.{alike?}
+use Rattle.colours.proofs.Numbers.{same_colour?}
+use Rattle.groupings.proofs.Splitting.{alike?}
 
 all? : {X : Type 0} (P : X → Type 0) → ((x : X) → Dec (P x)) → (xs : List X) → Dec (AllByRecursion P xs)
 all? P p? [] = yes tt
@@ -76,7 +76,7 @@ module _ (M : Model) (l : Ledger) where
     Differ s t = Concerned M slip l.groups s × (Concerned M slip l.groups t × ¬ Alike M (group_of l.groups) slip s t)
 
     differ? : (s t : ℕ) → Dec (Differ s t)
-    differ? s t = and? (concerned? s) (and? (concerned? t) (not? (alike? M l.groups slip s t)))
+    differ? s t = and? (concerned? s) (and? (concerned? t) (not? (alike? M (group_of l.groups) slip s t)))
 
     members_differ? : Dec (MembersDiffer M slip l.groups)
     members_differ? = map_dec

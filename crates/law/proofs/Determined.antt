@@ -14,7 +14,7 @@ use Rattle.law.specs.Ledgers.{Ledger, verdict, Sound, ColouredBytes}
 use Rattle.law.specs.Calls.{set_rule, regroup, judge, look, cause, split, refused, judged, Reply, Condition, count_of, AllHold, FirstFailing, conditions, Refused, Agrees, accepts, refuses}
 use Rattle.law.specs.Runs.{Run}
 use Rattle.law.specs.Theorems.{RepliesDetermined, OneRun}
-use Rattle.law.proofs.Soundness.{alike?}
+use Rattle.groupings.proofs.Splitting.{alike?}
 use Rattle.law.proofs.Histories.{after_sound}
 
 not_both : (cs : List Condition) (e : Refusal) → AllHold cs → FirstFailing cs e → ⊥
@@ -52,7 +52,7 @@ module _ (M : Model) (l : Ledger) (w : Sound M l) where
     group_once : (s : ℕ) → s < M.states → group_of ys s ≡ group_of zs s
     group_once s low = elim (ℕ_discrete (group_of l.groups s) (group_named slip)) [
       | no n ↦ a.others s low (λ m. n m.1) ∙ sym (b.others s low (λ m. n m.1))
-      | yes e ↦ elim (alike? M l.groups slip a.lead s) [
+      | yes e ↦ elim (alike? M (group_of l.groups) slip a.lead s) [
         | yes x ↦ a.stays s (low, e) x ∙ sym (b.stays s (low, e) (subst (λ t. Alike M (group_of l.groups) slip t s) lead_once x))
         | no n ↦ a.leaves s (low, e) n
             ∙ sym (b.leaves s (low, e) (λ x. n (subst (λ t. Alike M (group_of l.groups) slip t s) (sym lead_once) x)))
@@ -103,26 +103,18 @@ replies_determined M l w (split slip) x y r q (accepts h a) (accepts k b) =
       ledger_once r q (a.1 ∙ sym b.1) (divided_once M l w slip r.groups q.groups a.2 b.2),
     )
 
-head_or : {X : Type 0} → X → List X → X
-head_or d [] = d
-head_or d (x ∷ xs) = x
-
-tail_of : {X : Type 0} → List X → List X
-tail_of [] = []
-tail_of (x ∷ xs) = xs
-
 pub one_run : OneRun
-unfolding head_or tail_of
 one_run M l w [] [] a b s = tt
 one_run M l w [] (d ∷ ds) a b s = absurd (let n = ap length s in omega (arith, n))
 one_run M l w (e ∷ es) [] a b s = absurd (let n = ap length s in omega (arith, n))
 one_run M l w (e ∷ es) (d ∷ ds) a b s =
+    let call : e.call ≡ d.call = grind (arith, s) in
     let before : Sound M e.before = subst (Sound M) (sym a.0) w in
     let same : d.before ≡ e.before = b.0 ∙ sym a.0 in
     let agreed : Agrees M e.before e.call d.reply d.after =
-    subst (λ c. Agrees M e.before c d.reply d.after) (sym (ap (head_or e.call) s))
+    subst (λ c. Agrees M e.before c d.reply d.after) (sym call)
     (subst (λ m. Agrees M m d.call d.reply d.after) same b.1) in
     let one = replies_determined M e.before before e.call e.reply d.reply e.after d.after a.1 agreed in (
       (sym same, one.2, one.0, one.1),
-      one_run M e.after (after_sound M l e w a.0 a.1) es ds a.2 (subst (λ m. Run M m ds) (sym one.2) b.2) (ap tail_of s),
+      one_run M e.after (after_sound M l e w a.0 a.1) es ds a.2 (subst (λ m. Run M m ds) (sym one.2) b.2) (grind (arith, s)),
     )

@@ -1,4 +1,3 @@
-pub mod Numbers
 pub mod Counting
 pub mod Soundness
 pub mod Truth

@@ -1,5 +1,5 @@
 -- The ledger's invariant: a new ledger has it, every call keeps it, and a split adds exactly one group.
-use Rattle.std.proofs.Common.{◌≡◌, ℕ, zero, suc, ◌+◌, ◌<◌, ◌≤◌, true, ◌⊎◌, List, [], ◌∷◌, length, replicate, sym, refl, ◌∙◌, subst, inl, inr, arith}
+use Rattle.std.proofs.Common.{◌≡◌, ℕ, zero, suc, ◌+◌, ◌<◌, ◌≤◌, true, ◌⊎◌, List, [], ◌∷◌, length, replicate, sym, ◌∙◌, subst, inl, inr, arith}
 use native.Mathlib.Decide.{ℕ_discrete}
 use Rattle.std.specs.List.{AllByRecursion}
 use Rattle.std.proofs.lemmas.List.{length-replicate}
@@ -8,13 +8,12 @@ use Rattle.rules.specs.declared.syntax.Clause.TheVariants.{Constant}
 use Rattle.rules.specs.Clauses.{WellFounded, MarkBelow}
 use Rattle.rules.proofs.Rules.{every_rule}
 use Rattle.colours.specs.declared.chains.Reason.{Reason}
-use Rattle.colours.specs.declared.chains.Reason.TheVariants.{UnknownMark, UnsureStep}
-use Rattle.colours.specs.Groupings.{Fits, Alike, strength, group_named}
+use Rattle.colours.specs.Groupings.{Fits, Alike, group_named}
 use Rattle.groupings.specs.Members.{group_of, group_count, AllUsed}
 use Rattle.groupings.specs.Splits.{MembersDiffer, Concerned, Divided}
+use Rattle.groupings.proofs.Splitting.{alike?, through, itself}
 use Rattle.law.specs.Ledgers.{Ledger, fresh, Sound}
 use Rattle.law.specs.Calls.{Call, set_rule, regroup, judge, look, cause, split, Reply, Agrees, accepts, refuses}
-use Rattle.law.proofs.Numbers.{same_colour?, same_step?}
 use Rattle.law.proofs.Counting.{Onto, Below, onto_length, below_count, count_is, zeros_below, zeros_onto}
 
 one_founded : WellFounded (Constant true ∷ [])
@@ -42,24 +41,12 @@ pub few_groups : (M : Model) (l : Ledger) → Sound M l → group_count l.groups
 few_groups M l w = subst (λ n. group_count l.groups ≤ n) w.for_each (onto_length (group_count l.groups) l.groups w.used)
 
 module _ (M : Model) (xs : List ℕ) where
-  pub alike? : (slip : Reason) (s t : ℕ) → Dec (Alike M (group_of xs) slip s t)
-  alike? (UnknownMark g p) s t = same_colour? (M.mark s p) (M.mark t p)
-  alike? (UnsureStep g h) s t = same_step? (strength M (group_of xs) s h) (strength M (group_of xs) t h)
-
-  alike_self : (slip : Reason) (s : ℕ) → Alike M (group_of xs) slip s s
-  alike_self (UnknownMark g p) s = refl
-  alike_self (UnsureStep g h) s = refl
-
-  alike_both : (slip : Reason) (a s t : ℕ) → Alike M (group_of xs) slip a s → Alike M (group_of xs) slip a t → Alike M (group_of xs) slip s t
-  alike_both (UnknownMark g p) a s t x y = sym x ∙ y
-  alike_both (UnsureStep g h) a s t x y = sym x ∙ y
-
   module _ (full : length xs ≡ M.states) (slip : Reason) (ys : List ℕ) (d : Divided M slip xs ys) where
     -- a state keeps its group or goes to the new one
     moved : (s : ℕ) → s < M.states → (group_of ys s ≡ group_of xs s) ⊎ (group_of ys s ≡ group_count xs)
     moved s b = elim (ℕ_discrete (group_of xs s) (group_named slip)) [
       | no n ↦ inl (d.others s b (λ m. n m.1))
-      | yes e ↦ elim (alike? slip d.lead s) [ yes a ↦ inl (d.stays s (b, e) a) | no n ↦ inr (d.leaves s (b, e) n) ]
+      | yes e ↦ elim (alike? M (group_of xs) slip d.lead s) [ yes a ↦ inl (d.stays s (b, e) a) | no n ↦ inr (d.leaves s (b, e) n) ]
     ]
 
     divided_below : Below (group_count xs + 1) ys
@@ -72,16 +59,16 @@ module _ (M : Model) (xs : List ℕ) where
 
     -- some member leaves
     leaver : MembersDiffer M slip xs → (s : ℕ) × Concerned M slip xs s × ¬ Alike M (group_of xs) slip d.lead s
-    leaver m = elim (alike? slip d.lead m.0) [
+    leaver m = elim (alike? M (group_of xs) slip d.lead m.0) [
       | no n ↦ (m.0, m.2, n)
-      | yes a ↦ (m.1, m.3, λ b. m.4 (alike_both slip d.lead m.0 m.1 a b))
+      | yes a ↦ (m.1, m.3, λ b. m.4 (through M (group_of xs) slip d.lead m.0 m.1 a b))
     ]
 
     divided_onto : AllUsed xs → MembersDiffer M slip xs → Onto (group_count xs + 1) ys
     divided_onto used m g b = elim (ℕ_discrete g (group_count xs)) [
       | yes e ↦ (let u = leaver m in at_new u.0 g u.1.0 (d.leaves u.0 u.1 u.2 ∙ sym e))
       | no n ↦ elim (ℕ_discrete g (group_named slip)) [
-        | yes e ↦ at_new d.lead g d.member.0 (d.stays d.lead d.member (alike_self slip d.lead) ∙ d.member.1 ∙ sym e)
+        | yes e ↦ at_new d.lead g d.member.0 (d.stays d.lead d.member (itself M (group_of xs) slip d.lead) ∙ d.member.1 ∙ sym e)
         | no k ↦ (
             let u = used g (omega arith) in
             let low : u.0 < M.states = subst (λ n. u.0 < n) full u.1 in

@@ -17,7 +17,7 @@ use Rattle.law.specs.Ledgers.{Ledger, model, verdict, ColouredBytes}
 use Rattle.law.specs.Calls.{Call, set_rule, regroup, judge, look, cause, split, Answer, refused, done, judged, looked, caused, Reply, Agrees, accepts, refuses}
 use Rattle.law.specs.Runs.{Event, Agreed}
 use Rattle.law.specs.Laws.{place_at, Truthful, Compatible}
-use Rattle.law.proofs.Numbers.{colour_once}
+use Rattle.colours.proofs.Numbers.{same_colour}
 use Rattle.law.proofs.Soundness.{fits}
 
 -- the colour in an answer
@@ -55,7 +55,7 @@ module _ (M : Model) (l : Ledger) where
         → get_or bytes (place_at l s c) 0 ≡ colour_number v
         → HasColour (colouring M (formula l.rule c)) s v
     board_true bytes c k low e = below (formula l.rule c)
-        (colour_once (colour_of (model M l) (formula l.rule c) (group_of l.groups s)) v
+        (same_colour (colour_of (model M l) (formula l.rule c) (group_of l.groups s)) v
         (sym (k.1.shows (group_of l.groups s) c (fits M l s b) low) ∙ e))
 
     look_true : (m q c : ℕ) (reply : Reply) (r : Ledger) → Agrees M l (look m q s c) reply r → reply.answer ≡ looked v

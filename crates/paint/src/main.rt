@@ -65,7 +65,9 @@ fn refine(
     Ok((shown, grouping.states()))
 }
 
-// Refines from one group, and prints the verdict and the number of groups at the end.
+// Refines from one group, and prints the verdict and the number of groups at the end. The board and the queue are set
+// up as in `colour_turns`, since a function cannot lend out arrays of its own; on the stack, so that no turn that is
+// measured asks for memory.
 fn refine_turns(rt: &HostRuntime, table: &Table, rule: &Rule, turns: u32) -> anyhow::Result<()> {
     let mut bytes = [0u8; PLACES];
     let board: &mut [u8] = &mut bytes;

@@ -4,7 +4,8 @@ mod methods;
 use std::marker::Model;
 
 // `len` elements stand from place `head` on, going round at the end of the slice. The slice is lent,
-// since a call that takes a queue must not fail for want of memory.
+// since a call that takes a queue must not fail for want of memory. Who is lent a queue says that its room is as
+// before: another could be put in its place, so the type does not say it.
 #[derive(Drop)]
 pub struct Ring<'a, T> {
     slots: &'a mut [T],

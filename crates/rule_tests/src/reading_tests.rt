@@ -36,9 +36,7 @@ fn keeps_the_limits(rt: HostRuntime) {
 
 #[test]
 fn answers_about_itself(rt: HostRuntime) -> Result<(), Fail> {
-    let Ok(rule) = read(b"AF p3") else {
-        return Err(Fail::new("refused"));
-    };
+    let rule = read(b"AF p3")?;
     assert!(rt; rule.count() == 3 && rule.nesting() == 2);
     assert!(rt; rule.marks_below(4) && !rule.marks_below(3));
     assert!(rt; rule.clause(2).is_some() && rule.clause(3).is_none());

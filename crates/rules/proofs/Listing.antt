@@ -1,8 +1,8 @@
 -- The list of a formula's clauses.
 use Rattle.std.proofs.Common.{◌≡◌, ℕ, zero, suc, ◌+◌, ◌-◌, ◌<◌, ◌≤◌, false, ◌⊎◌, List, [], ◌∷◌, ◌++◌, length, get_or, sym, refl, ap, ◌∙◌, subst, ap₂, inl, inr, zero-add, arith, length-append}
 use Rattle.std.specs.List.{AllByRecursion}
-use Rattle.std.proofs.ByRecursion.{All-append, All-push, All-get_or}
 use Rattle.std.proofs.lemmas.List.{get_or_append_left, get_or-append_right, get_or_push}
+use Rattle.std.proofs.lemmas.List.Elements.{All-from_recursion}
 use Rattle.std.proofs.lemmas.Bool.{cases_lt}
 use Rattle.rules.specs.declared.syntax.Clause.{Clause}
 use Rattle.rules.specs.Formulas.{Formula, MarksBelow}
@@ -88,12 +88,9 @@ parts_numbered (Formula.pair o r q) n i l = by (place (size r) i) (λ l. parts_n
     by (before l) f g = subst (PartsBelow (n + i)) (sym (pair_left n r q _ i l)) (f l)
     by (further j e) f g = subst (λ x. PartsBelow (n + i) (at (numbered n (Formula.pair o r q)) x)) (sym e) (on_right j e (place (size q) j) (g j))
 
--- the marks of a formula are those of its clauses
-marks_numbered : (m n : ℕ) (f : Formula) → MarksBelow m f → AllByRecursion (MarkBelow m) (numbered n f)
-marks_numbered m n (Formula.constant b) h = (tt, tt)
-marks_numbered m n (Formula.mark p negated) h = (h, tt)
-marks_numbered m n (Formula.next k r) h = All-push (MarkBelow m) (numbered n r) _ (marks_numbered m n r h) tt
-marks_numbered m n (Formula.pair o r q) h = All-append (MarkBelow m) (numbered n r) _ (marks_numbered m n r h.0) (All-push (MarkBelow m) (numbered (n + size r) q) _ (marks_numbered m (n + size r) q h.1) tt)
+all_both : {X : Type 0} (P : X → Type 0) (xs ys : List X) → AllByRecursion P xs → AllByRecursion P ys → AllByRecursion P (xs ++ ys)
+all_both P [] ys a b = b
+all_both P (x ∷ xs) ys a b = (a.0, all_both P xs ys a.1 b)
 
 all_left : {X : Type 0} (P : X → Type 0) (xs ys : List X) → AllByRecursion P (xs ++ ys) → AllByRecursion P xs
 all_left P [] ys a = tt
@@ -102,6 +99,14 @@ all_left P (x ∷ xs) ys a = (a.0, all_left P xs ys a.1)
 all_right : {X : Type 0} (P : X → Type 0) (xs ys : List X) → AllByRecursion P (xs ++ ys) → AllByRecursion P ys
 all_right P [] ys a = a
 all_right P (x ∷ xs) ys a = all_right P xs ys a.1
+
+-- the marks of a formula are those of its clauses
+marks_numbered : (m n : ℕ) (f : Formula) → MarksBelow m f → AllByRecursion (MarkBelow m) (numbered n f)
+marks_numbered m n (Formula.constant b) h = (tt, tt)
+marks_numbered m n (Formula.mark p negated) h = (h, tt)
+marks_numbered m n (Formula.next k r) h = all_both (MarkBelow m) (numbered n r) _ (marks_numbered m n r h) (tt, tt)
+marks_numbered m n (Formula.pair o r q) h =
+    all_both (MarkBelow m) (numbered n r) _ (marks_numbered m n r h.0) (all_both (MarkBelow m) (numbered (n + size r) q) _ (marks_numbered m (n + size r) q h.1) (tt, tt))
 
 numbered_marks : (m n : ℕ) (f : Formula) → AllByRecursion (MarkBelow m) (numbered n f) → MarksBelow m f
 numbered_marks m n (Formula.constant b) a = tt
@@ -160,7 +165,7 @@ unrolled_marks : (n depth : ℕ) (cs : List Clause) → WellFounded cs → AllBy
 unfolding unrolled
 unrolled_marks n zero cs w a i l d = absurd (omega arith)
 unrolled_marks n (suc depth) cs w a i l d =
-    tree_marks n i (unrolled cs depth) (at cs i) (All-get_or (MarkBelow n) cs i (Clause.Constant false) l a) (w i l) (λ j m. unrolled_marks n depth cs w a j (omega arith) (omega arith))
+    tree_marks n i (unrolled cs depth) (at cs i) (All-from_recursion (MarkBelow n) cs a i (Clause.Constant false) l) (w i l) (λ j m. unrolled_marks n depth cs w a j (omega arith) (omega arith))
 
 pub marks_of_clauses : MarksOfClauses
 unfolding formula

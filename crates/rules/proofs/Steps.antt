@@ -1,5 +1,5 @@
 -- Single steps of the reader that takes one byte at a time.
-use Rattle.std.proofs.Common.{◌≡◌, ℕ, suc, ◌+◌, Bool, true, false, eqb, List, [], ◌∷◌, length, drop, Some, None, sym, refl, ap, ◌∙◌, arith}
+use Rattle.std.proofs.Common.{◌≡◌, ℕ, suc, Bool, true, false, eqb, List, [], ◌∷◌, length, drop, Some, None, sym, refl, ap, ◌∙◌, one-add}
 use Rattle.std.proofs.lemmas.Bool.{eqb-true}
 use Rattle.rules.specs.declared.pieces.Prefix.{Prefix}
 use Rattle.rules.specs.Trees.{Tree}
@@ -35,16 +35,13 @@ spacious_have s (under o ∷ k) bs = spacious_have (Tree.unary o s) k bs ∙ sym
 spacious_have s (left c ∷ k) bs = refl
 spacious_have s (right o r ∷ k) bs = refl
 
-drop_more : (n b : ℕ) (bs : List ℕ) → drop (1 + n) (b ∷ bs) ≡ drop n bs
-drop_more n b bs = let e : 1 + n ≡ suc n = omega arith in rw e refl
-
 -- the spaces before a piece
 pub skipped : (σ : State) (bs : List ℕ) → Spacious σ → outcome σ bs ≡ outcome σ (drop (spaces bs) bs)
 skipped σ [] sp = refl
 skipped σ (b ∷ bs) sp = by (eqb b 32) refl (skipped σ bs sp)
   where
     by : (t : Bool) → eqb b 32 ≡ t → outcome σ bs ≡ outcome σ (drop (spaces bs) bs) → outcome σ (b ∷ bs) ≡ outcome σ (drop (spaces (b ∷ bs)) (b ∷ bs))
-    by true e h = rw (e, drop_more, eqb-true b 32 e) (sp bs ∙ h)
+    by true e h = rw (e, one-add, eqb-true b 32 e) (sp bs ∙ h)
     by false e h = rw e refl
 
 pub no_space : (bs : List ℕ) (b : ℕ) (cs : List ℕ) → drop (spaces bs) bs ≡ b ∷ cs → eqb b 32 ≡ false
@@ -52,5 +49,5 @@ no_space [] b cs e = cc
 no_space (x ∷ bs) b cs e = by (eqb x 32) refl e (λ f. no_space bs b cs f)
   where
     by : (t : Bool) → eqb x 32 ≡ t → drop (spaces (x ∷ bs)) (x ∷ bs) ≡ b ∷ cs → (drop (spaces bs) bs ≡ b ∷ cs → eqb b 32 ≡ false) → eqb b 32 ≡ false
-    by true f e h = h (rw (f, drop_more) at e)
+    by true f e h = h (rw (f, one-add) at e)
     by false f e h = let g : x ∷ bs ≡ b ∷ cs = rw f at e in let z : x ≡ b = cc in rw z at f

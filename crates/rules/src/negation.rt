@@ -16,7 +16,7 @@ pub(crate) trait Dual: Copy {
 
     ghost turns_back: { (x : Self) → other (other x) ≡ x };
 
-    // The same, where it stands under a negation, and else the value as it is.
+    // What the value is under a negation, or, where there is none, the value itself.
     final fn under(self, negated: bool) -> Self
         ensures { result ≡ cond negated (other self) self }
     {

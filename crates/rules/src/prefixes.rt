@@ -7,7 +7,8 @@ use crate::pieces::Prefix;
 use crate::syntax::Clause;
 
 impl Prefix {
-    // Whether the rule after the prefix stands under a negation.
+    // Whether the rule after the prefix stands under a negation: `!` turns it round, the others pass it on,
+    // which a match says plainer than an exclusive or.
     pub(crate) fn negates(self, negated: bool) -> bool
         ensures { result ≡ flip self negated }
     {

@@ -18,7 +18,8 @@ pub enum Operator {
     EV,
 }
 
-// One clause, its parts by their numbers.
+// One clause, its parts by their numbers: no clause uses a later one, which a tree of boxes could not say, and
+// a rule may not ask for memory.
 #[derive(Clone, Copy, PartialEq, Eq, Debug)]
 pub enum Clause {
     Constant(bool),

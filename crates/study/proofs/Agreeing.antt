@@ -4,7 +4,7 @@ use Rattle.std.specs.List.{AllByRecursion}
 use Rattle.std.proofs.lemmas.Nat.{mul-add-lt}
 use Rattle.systems.specs.declared.kinds.Colour.{Colour}
 use Rattle.systems.specs.declared.kinds.Colour.TheVariants.{Undecided, F, T}
-use Rattle.systems.specs.Model.{Model, Possibly, Starts, Agree}
+use Rattle.systems.specs.Model.{Model, Starts, Agree}
 use Rattle.systems.specs.Numbers.{colour_number}
 use Rattle.rules.specs.declared.syntax.Quantifier.{Quantifier}
 use Rattle.rules.specs.declared.syntax.Quantifier.TheVariants.{A, E}
@@ -12,7 +12,7 @@ use Rattle.rules.specs.declared.syntax.Operator.{Operator}
 use Rattle.rules.specs.declared.syntax.Operator.TheVariants.{And, Or, AU, AV, EU, EV}
 use Rattle.rules.specs.declared.syntax.Clause.{Clause}
 use Rattle.rules.specs.declared.syntax.Clause.TheVariants.{Constant, Mark, Next, Pair}
-use Rattle.rules.specs.Formulas.{Formula}
+use Rattle.rules.specs.Formulas.{Formula, MarksBelow}
 use Rattle.rules.specs.Clauses.{PartsBelow, WellFounded, formula, whole, clauses, MarkBelow}
 use Rattle.rules.proofs.Listing.{size_pos, listed_whole, marks_of_clauses}
 use Rattle.colours.specs.declared.chains.Position.{Position}
@@ -24,9 +24,8 @@ use Rattle.colours.specs.Values.{colour_of, verdict_of}
 use Rattle.colours.specs.Boards.{place, positions, Coloured}
 use Rattle.colours.specs.Chains.{clause_at, Unsurely, Looks, Shown, Awaited, colours, Open, Follows, EndsInStep, GoesOn, Ends, Chain, LowestOpenStart, Cause}
 use Rattle.colours.proofs.Lists.{all_at, last_of, all_weaker}
-use Rattle.colours.proofs.Computed.{one_colour_computed}
 use Rattle.colours.proofs.Verdicts.{one_verdict}
-use Rattle.colours.proofs.Agreement.{agree_back, agreeing_models_colour_alike}
+use Rattle.colours.proofs.Agreement.{agree_back, within, possibly, starts, same_colour, agreeing_models_colour_alike}
 use Rattle.colours.proofs.Chaining.{undecided_verdict_has_a_cause}
 
 pub positions_agree : (M L : Model) (cs : List Clause) → Agree M L → positions M cs ≡ positions L cs
@@ -49,53 +48,46 @@ coloured_front M cs b h =
     )
 
 -- from L over to M
-module _ (M L : Model) (a : Agree M L) where
-  within : (s : ℕ) → s < L.states → s < M.states
-  within s b = rw a.states b
-
-  possibly : (s t : ℕ) → Possibly L s t → Possibly M s t
-  possibly s t k = let b = within s k.0 in let c = within t k.1 in (b, c, λ e. k.2 (sym (a.step s t b c) ∙ e))
-
-  unsurely : (s t : ℕ) → Unsurely L s t → Unsurely M s t
-  unsurely s t k = let b = within s k.0 in let c = within t k.1 in (b, c, a.step s t b c ∙ k.2)
-
-  starts : (s : ℕ) → Starts L s → Starts M s
-  starts s k = let b = within s k.0 in (b, a.start s b ∙ k.1)
+unsurely : (M L : Model) → Agree M L → (s t : ℕ) → Unsurely L s t → Unsurely M s t
+unsurely M L a s t k =
+    let back = within L M (agree_back M L a) in
+    let b = back s k.0 in
+    let c = back t k.1 in
+    (b, c, a.step s t b c ∙ k.2)
 
 module _ (M L : Model) (cs : List Clause) (a : Agree M L) (founded : WellFounded cs) (known : AllByRecursion (MarkBelow M.marks) cs) where
   known_at : (i : ℕ) → i < length cs → MarkBelow M.marks (clause_at cs i)
   known_at i b = all_at (MarkBelow M.marks) cs i (Constant false) b known
 
-  alike : (i s : ℕ) → i < length cs → s < M.states → colour_of M (formula cs i) s ≡ colour_of L (formula cs i) s
-  alike i s k b = (agreeing_models_colour_alike M L a (formula cs i) (marks_of_clauses M.marks cs founded known i k)).0 s b
+  known_marks : (i : ℕ) → i < length cs → MarksBelow M.marks (formula cs i)
+  known_marks = marks_of_clauses M.marks cs founded known
 
   pub colour_agrees : (i s : ℕ) → i < length cs → s < M.states → colour_of M (formula cs i) s ≡ colour_of L (formula cs i) s
-  colour_agrees = alike
+  colour_agrees i s k b = (agreeing_models_colour_alike M L a (formula cs i) (known_marks i k)).0 s b
 
   pub coloured_agrees : (b : List ℕ) → Coloured L cs b → Coloured M cs b
   coloured_agrees b h = record {
     fits = rw (positions_agree M L cs a) h.fits;
-    shows = λ g c low part. h.shows g c (within L M (agree_back M L a) g low) part ∙ ap colour_number (sym (alike c g part low));
+    shows = λ g c low part. h.shows g c (within M L a g low) part ∙ ap colour_number (sym (colour_agrees c g part low));
   }
 
   pub verdict_agrees : 1 ≤ length cs → verdict_of L (whole cs) ≡ verdict_of M (whole cs)
-  verdict_agrees some =
-      let marks = marks_of_clauses M.marks cs founded known (length cs - 1) (omega arith) in
-      sym (agreeing_models_colour_alike M L a (whole cs) marks).1
+  verdict_agrees some = sym (agreeing_models_colour_alike M L a (whole cs) (known_marks (length cs - 1) (omega arith))).1
+
+  back : Agree L M
+  back = agree_back M L a
 
   -- a colour goes over, and comes back
   colour : (v : Colour) (i s : ℕ) → i < length cs → s < M.states → HasColour (colours L cs i) s v → HasColour (colours M cs i) s v
-  colour v i s k b h =
-      let same = alike i s k b ∙ sym ((one_colour_computed L (formula cs i) s (within L M (agree_back M L a) s b)).1 v h) in
-      subst (HasColour (colours M cs i) s) same (one_colour_computed M (formula cs i) s b).0
+  colour v i s k b =
+      let marks = subst (λ n. MarksBelow n (formula cs i)) a.marks (known_marks i k) in
+      same_colour L M back (formula cs i) marks v s (within M L a s b)
 
   colour_back : (v : Colour) (i s : ℕ) → i < length cs → s < M.states → HasColour (colours M cs i) s v → HasColour (colours L cs i) s v
-  colour_back v i s k b h =
-      let same = sym (alike i s k b) ∙ sym ((one_colour_computed M (formula cs i) s b).1 v h) in
-      subst (HasColour (colours L cs i) s) same (one_colour_computed L (formula cs i) s (within L M (agree_back M L a) s b)).0
+  colour_back v i s k b = same_colour M L a (formula cs i) (known_marks i k) v s b
 
   opened : (p : Position) → Open L cs p → Open M cs p
-  opened p o = let b = within M L a p.group o.0 in (b, o.1, colour Undecided p.clause p.group o.1 b o.2)
+  opened p o = let b = within L M back p.group o.0 in (b, o.1, colour Undecided p.clause p.group o.1 b o.2)
 
   looks : (o : Operator) (i s : ℕ) → i < length cs → s < M.states → Looks o (colours L cs i) s → Looks o (colours M cs i) s
   looks And i s k b h = h
@@ -141,13 +133,13 @@ module _ (M L : Model) (cs : List Clause) (a : Agree M L) (founded : WellFounded
   linked p (n ∷ ns) o w =
       let i = p.clause in
       let k = o.0.1 in (
-        follows (clause_at cs i) i p.group n.clause n.group k (within M L a p.group o.0.0) (founded i k) w.0,
+        follows (clause_at cs i) i p.group n.clause n.group k (within L M back p.group o.0.0) (founded i k) w.0,
         linked n ns o.1 w.1,
       )
 
   ended : (p : Position) (reason : Reason) → Open L cs p → Ends L cs p reason → Ends M cs p reason
   ended p (UnknownMark g m) o e =
-      let b = subst (λ x. x < M.states) (sym e.0) (within M L a p.group o.0) in
+      let b = subst (λ x. x < M.states) (sym e.0) (within L M back p.group o.0) in
       let c = subst (MarkBelow M.marks) e.2.1 (known_at p.clause o.1) in
       (e.0, a.mark g m b c ∙ e.1, e.2)
   ended p (UnsureStep g t) o e = (e.0, ends_in_step (clause_at cs p.clause) p.clause g t o.1 (founded p.clause o.1) e.1)
@@ -163,10 +155,10 @@ module _ (M L : Model) (cs : List Clause) (a : Agree M L) (founded : WellFounded
   lowest : 1 ≤ length cs → (g : ℕ) → LowestOpenStart L cs g → LowestOpenStart M cs g
   lowest some g l =
       let k : length cs - 1 < length cs = omega arith in
-      let s = starts M L a g l.0 in (
+      let s = starts L M back g l.0 in (
         s,
         colour Undecided (length cs - 1) g k s.0 l.1,
-        λ h below x u. l.2 h below (starts L M (agree_back M L a) h x) (colour_back Undecided (length cs - 1) h k x.0 u),
+        λ h below x u. l.2 h below (starts M L a h x) (colour_back Undecided (length cs - 1) h k x.0 u),
       )
 
   pub cause_agrees : (p : Position) (ps : List Position) (reason : Reason) → Cause L cs p ps reason → Cause M cs p ps reason

@@ -1,5 +1,6 @@
 -- Chains over a range of numbers, in the words of the definitions: `(0..n).any(..)` is `any_below`, and so on.
-use Rattle.std.proofs.Common.{◌≡◌, ℕ, zero, suc, ◌+◌, ◌<◌, Bool, true, false, cond, ◌&&◌, ◌||◌, List, [], ◌∷◌, length, refl, ap, ◌∙◌, arith}
+use Rattle.std.proofs.Common.{◌≡◌, ℕ, zero, suc, ◌+◌, ◌<◌, Bool, true, false, cond, ◌&&◌, ◌||◌, List, [], ◌∷◌, length, sym, refl, ap, ◌∙◌, arith}
+use Rattle.std.proofs.Math.Bool.{or_assoc, or_comm, and_assoc, and_comm}
 use Rattle.std.proofs.iter.Yields.{nat_range_steps}
 use Rattle.std.proofs.lemmas.Iterator.{YieldsList-from_range}
 use Rattle.std.proofs.lemmas.Iterator.Search.{any_from_yields_List, all_from_yields_List}
@@ -12,43 +13,23 @@ use Rattle.std.specs.Prelude.{Option}
 use denote.Param.Members.{Mut}
 use Rattle.systems.specs.Below.{all_below, any_below, count_below}
 
-or_assoc : (a b c : Bool) → (a || (b || c)) ≡ ((a || b) || c)
-or_assoc true b c = refl
-or_assoc false b c = refl
-
-or_swap : (a b : Bool) → (a || b) ≡ (b || a)
-or_swap true true = refl
-or_swap true false = refl
-or_swap false true = refl
-or_swap false false = refl
-
-and_assoc : (a b c : Bool) → (a && (b && c)) ≡ ((a && b) && c)
-and_assoc true b c = refl
-and_assoc false b c = refl
-
-and_swap : (a b : Bool) → (a && b) ≡ (b && a)
-and_swap true true = refl
-and_swap true false = refl
-and_swap false true = refl
-and_swap false false = refl
-
 -- the numbers below n in the order of a range, from the first on, where the definitions take the last first
 module _ (test : ℕ → Bool) where
   any_last : (a n j : ℕ) → a + n ≡ j → list_any test (range_with_len a (suc n)) ≡ (list_any test (range_with_len a n) || test j)
-  any_last a zero j e = let same : a ≡ j = omega arith in or_swap (test a) false ∙ ap test same
-  any_last a (suc n) j e = rw (any_last (a + 1) n j (omega arith)) (or_assoc (test a) _ _)
+  any_last a zero j e = let same : a ≡ j = omega arith in or_comm (test a) false ∙ ap test same
+  any_last a (suc n) j e = rw (any_last (a + 1) n j (omega arith)) (sym (or_assoc (test a) _ _))
 
   pub any_over : (n : ℕ) → list_any test (range_with_len 0 n) ≡ any_below test n
   any_over zero = refl
-  any_over (suc n) = rw (any_last 0 n n (omega arith), any_over n) (or_swap (any_below test n) (test n))
+  any_over (suc n) = rw (any_last 0 n n (omega arith), any_over n) (or_comm (any_below test n) (test n))
 
   all_last : (a n j : ℕ) → a + n ≡ j → list_all test (range_with_len a (suc n)) ≡ (list_all test (range_with_len a n) && test j)
-  all_last a zero j e = let same : a ≡ j = omega arith in and_swap (test a) true ∙ ap test same
-  all_last a (suc n) j e = rw (all_last (a + 1) n j (omega arith)) (and_assoc (test a) _ _)
+  all_last a zero j e = let same : a ≡ j = omega arith in and_comm (test a) true ∙ ap test same
+  all_last a (suc n) j e = rw (all_last (a + 1) n j (omega arith)) (sym (and_assoc (test a) _ _))
 
   pub all_over : (n : ℕ) → list_all test (range_with_len 0 n) ≡ all_below test n
   all_over zero = refl
-  all_over (suc n) = rw (all_last 0 n n (omega arith), all_over n) (and_swap (all_below test n) (test n))
+  all_over (suc n) = rw (all_last 0 n n (omega arith), all_over n) (and_comm (all_below test n) (test n))
 
   one_more : (b : Bool) (x : ℕ) (ys : List ℕ) → length (cond {A = List ℕ} b (x ∷ ys) ys) ≡ cond {A = ℕ} b 1 0 + length ys
   one_more true x ys = omega arith

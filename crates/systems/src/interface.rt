@@ -21,7 +21,8 @@ pub trait System {
     fn marks(&self) -> usize
         ensures { result ≡ (meaning self.now).marks };
 
-    // The step from one state to another.
+    // The step from one state to another. Each kind tests the numbers of its questions itself: an inner question that
+    // is told that they are in range would be a public call with a condition.
     fn step(&self, from: usize, to: usize) -> Result<Step, Refusal>
         ensures { result ≡ step_answer (meaning self.now) from to };
 

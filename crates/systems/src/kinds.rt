@@ -11,7 +11,6 @@ ghost use Rattle.systems.specs.Numbers.{
 ghost use Rattle.systems.specs.Passes.{known};
 ghost use Rattle.systems.specs.Texts.{colour_letter};
 
-use std::error::Error;
 use std::fmt;
 
 // Whether there is a step from one state to another, the surer step the greater. The field's names
@@ -119,11 +118,3 @@ impl fmt::Display for Colour {
         })
     }
 }
-
-impl fmt::Display for UnlistedByte {
-    fn fmt<W: fmt::Write>(&self, f: &mut fmt::Formatter<W>) -> fmt::Result {
-        write!(f, "the byte {} stands for nothing here", self.0)
-    }
-}
-
-impl Error for UnlistedByte {}

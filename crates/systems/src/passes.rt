@@ -25,7 +25,7 @@ impl PassStore {
     pub fn new(limit: usize) -> Result<PassStore, Refusal>
         ensures { MatchResult result (λ p. (p.limit ≡ limit) × (1 ≤ limit) × (limit ≤ 30)) (λ e. (e ≡ PassLimit) × ((limit < 1) ⊎ (30 < limit))) }
     {
-        if limit < 1 || limit > MAX_PASSES {
+        if !(1..=MAX_PASSES).contains(&limit) {
             return Err(Refusal::PassLimit);
         }
         Ok(PassStore { limit })

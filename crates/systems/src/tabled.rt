@@ -9,7 +9,7 @@ mod making;
 
 // A row of 128 places holds the steps from a state, a row of 16 its marks; places beyond the number
 // of states or marks are not used. The arrays are fixed, since making a table may not fail for want
-// of memory.
+// of memory; flat, and one for each kind of answer, as `from_parts`, which is public, takes them.
 #[derive(Clone, Copy)]
 pub struct Table {
     states: usize,

@@ -21,7 +21,8 @@ pub(crate) struct Bodies<'a> {
     ghost starts_fill: { length starts.now ≡ states },
 }
 
-// Whether a row of the steps has a byte that is not 0.
+// Whether a row of the steps has a byte that is not 0: by its number, as the definition has it, since whether each
+// byte is listed is another condition.
 fn has_step(row: &[u8]) -> bool
     ensures { result ≡ list_any (λ b. nat_lt 0 b) row.now }
 {

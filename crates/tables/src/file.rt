@@ -42,7 +42,7 @@ fn byte_at(body: &[u8], width: usize, row: usize, column: usize) -> u8
 impl System for TableFile<'_> {
     ghost meaning = { λ f. body_model f.bodies.states f.bodies.marks f.bodies.steps.now f.bodies.values.now f.bodies.starts.now };
 
-    ghost lawful = { λ f. file_lawful f.bodies.states f.bodies.marks f.bodies.steps.now f.bodies.values.now f.bodies.starts.now f.lawful f.bodies.steps_fill f.bodies.starts_fill f.bodies.ranged };
+    ghost lawful = { λ f. file_lawful f.bodies.states f.bodies.marks f.bodies.steps.now f.bodies.values.now f.bodies.starts.now f.lawful f.bodies.starts_fill f.bodies.ranged };
 
     fn states(&self) -> usize {
         self.bodies.states

@@ -71,7 +71,8 @@ impl<'s> Scene<'s> {
 
     // Whether a group is a start where the board has the rule undecided.
     fn starts_open(&self, group: usize) -> bool
-        ensures { group < (model_of self.now).states → result ≡ opens_at self.now group }
+        requires { group < (model_of self.now).states }
+        ensures { result ≡ opens_at self.now group }
     {
         self.table.is_start(group)
             && self.colour_at(self.whole_at(group)) == Some(Colour::Undecided)

@@ -41,7 +41,8 @@ impl Membership {
         self.groups
     }
 
-    // The group of a state; 0 for a number beyond the states.
+    // The group of a state; 0 for a number beyond the states, as the list of the groups reads there, so that
+    // the call needs no condition and its answer is always a group.
     pub fn group_of(&self, state: usize) -> usize
         ensures is { result ≡ group_of (groups_of self.now) state }
         ensures below { (result < group_count (groups_of self.now)) × (result < 128) }

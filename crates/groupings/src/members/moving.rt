@@ -21,7 +21,7 @@ impl Membership {
         ensures { Moved flags.now (groups_of self.now) (groups_of result) }
     {
         Membership {
-            numbers: renumbered(&self.numbers, self.groups as u8, flags),
+            numbers: renumbered(&self.numbers, u8::try_from(self.groups).unwrap(), flags),
             states: self.states,
             groups: self.groups + 1,
         }

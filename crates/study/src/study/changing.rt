@@ -49,7 +49,8 @@ impl<S: System> Study<S> {
 
     // Uses up a slip. Members of its group that answer as the lowest-numbered one does, by their mark or
     // their strength into the target, stay; all others become the last group. Refused where the group or
-    // its mark or target does not exist (18), or all members answer alike (19); then the slip comes back.
+    // its mark or target does not exist (18), or all members answer alike (19); then the slip comes back. By
+    // cases, since the slip moves in both.
     pub fn split(&mut self, slip: Slip) -> Result<(), (Refusal, Slip)>
         ensures agrees { Agrees (below S.System.meaning self.old) (ledger S.System.meaning self.old) (split slip.reason) (split_reply result) (ledger S.System.meaning self.new) }
         ensures below { system_of self.new ≡ system_of self.old }

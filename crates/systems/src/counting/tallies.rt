@@ -16,8 +16,8 @@ fn count_below<F: Fn(usize) -> bool>(n: usize, test: F) -> usize
     (0..n).filter(|k| test(*k)).count()
 }
 
-// At how many cells of a table of at most 128 rows and columns a test passes. A `for` and no `sum`: that the
-// sum fits is shown turn by turn, since before a test is known no more is known of a row than its bound.
+// At how many cells of a table of at most 128 rows and columns a test passes. A `for`, since of `map(..).sum()` it
+// stays open that the sum fits: before a test is known no more is known of a row's count than its bound.
 fn count_cells<F: Fn(usize, usize) -> bool>(rows: usize, columns: usize, test: F) -> usize
     requires callable { F.IsAlwaysCallable test }
     requires small { (rows ≤ 128) × (columns ≤ 128) }

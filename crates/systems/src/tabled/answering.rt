@@ -1,5 +1,4 @@
-// A table's answers are read off its arrays. Each question tests its own numbers, as every kind of system
-// does: the index after the test needs them to be in range.
+// A table's answers are read off its arrays.
 ghost use Rattle.systems.specs.Written.{table_model};
 ghost use Rattle.systems.specs.laws.TableLaws.{table_lawful};
 

@@ -1,4 +1,5 @@
-// Writing out any system.
+// Writing out any system. Each array has a function of its own, of one line: a generic one would be no shorter
+// at those that call it.
 ghost use Rattle.std.specs.Prelude.{◌≡◌, ℕ, ◌*◌, ◌+◌, ◌<◌, slice_index_or};
 ghost use Rattle.systems.specs.Model.{Agree, step_or_absent, mark_or_unknown, is_start};
 ghost use Rattle.systems.specs.Tabled.{step_at, value_at, start_at};

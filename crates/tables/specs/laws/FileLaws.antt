@@ -1,12 +1,11 @@
 -- A file that meets the conditions on its bytes keeps the laws of a system.
-use Rattle.std.specs.Prelude.{◌≡◌, ℕ, ◌+◌, ◌-◌, ◌*◌, ◌<◌, ◌==◌, Bool, true, List, length, drop, refl, nat_lt}
+use Rattle.std.specs.Prelude.{◌≡◌, ℕ, ◌+◌, ◌-◌, ◌*◌, ◌<◌, ◌≤◌, ◌==◌, Bool, true, List, length, drop, refl, nat_lt}
 use Rattle.std.specs.List.{between, list_any}
 use Rattle.std.proofs.Common.{arith, sym, ◌∙◌, subst, ⊎_elim, get_or-drop, get_or-take}
-use Rattle.std.proofs.lemmas.List.{get_or_default, length-take}
+use Rattle.std.proofs.lemmas.List.{get_or_default, get_or_past, length-take}
 use Rattle.std.proofs.lemmas.List.Folds.{Any-from_list_any}
 use Rattle.std.proofs.lemmas.List.Sums.{AllPass-from_list_all}
-use Rattle.std.proofs.lemmas.Nat.{mul-add-lt}
-use Rattle.std.proofs.lemmas.Bool.{ltb-true, cases_eq}
+use Rattle.std.proofs.lemmas.Bool.{ltb-true, cases_eq, cases_lt}
 use Rattle.systems.specs.Model.{Lawful}
 use Rattle.systems.specs.Numbers.{is_possible}
 use Rattle.systems.specs.Tabled.{InRange}
@@ -28,9 +27,14 @@ found test body e =
     let hit = Any-from_list_any test body e in
     (hit.0, hit.2, subst (λ b. test b ≡ true) (sym hit.3 ∙ get_or_default body hit.0 hit.1 0 hit.2) hit.4)
 
-module _ (n p : ℕ) (steps marks starts : List ℕ) (bodies : LawfulBodies n steps starts) (square : length steps ≡ n * n) where
-  cell_listed : (s t : ℕ) → s < n → t < n → cell steps n s t < 3
-  cell_listed s t ls lt = ltb-true _ _ (AllPass-from_list_all (λ b. nat_lt b 3) steps bodies.0 (s * n + t) 0 (omega (arith, mul-add-lt s n t n ls lt)))
+module _ (n p : ℕ) (steps marks starts : List ℕ) (bodies : LawfulBodies n steps starts) where
+  -- a cell beyond the end reads as 0, which is listed too
+  cell_listed : (s t : ℕ) → cell steps n s t < 3
+  cell_listed s t =
+      ⊎_elim
+      (λ (low : s * n + t < length steps). ltb-true _ _ (AllPass-from_list_all (λ b. nat_lt b 3) steps bodies.0 (s * n + t) 0 low))
+      (λ (high : length steps ≤ s * n + t). let none : cell steps n s t ≡ 0 = get_or_past steps (s * n + t) 0 high in omega arith)
+      (cases_lt (s * n + t) (length steps))
 
   -- the column of a step from a state
   column : (s : ℕ) → s < n → (t : ℕ) × (t < n) × (0 < cell steps n s t)
@@ -49,6 +53,6 @@ module _ (n p : ℕ) (steps marks starts : List ℕ) (bodies : LawfulBodies n st
     marks_few = range.3;
     goes_on = λ s l.
         let t = column s l in
-        (t.0, (l, t.1, possible_from (step_of (cell steps n s t.0)) (possible_byte (cell steps n s t.0) t.2 (cell_listed s t.0 l t.1))));
+        (t.0, (l, t.1, possible_from (step_of (cell steps n s t.0)) (possible_byte (cell steps n s t.0) t.2 (cell_listed s t.0))));
     starts = let first = found (λ b. b == 1) starts bodies.2 in (first.0, (omega arith, first.2));
   }
