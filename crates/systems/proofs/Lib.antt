@@ -4,4 +4,5 @@ pub mod Ranges
 pub mod Counts
 pub mod Exactness
 pub mod Agreeing
+pub mod Joining
 pub mod Loops

@@ -1,5 +1,5 @@
 -- A system that is written out in full: a row of 128 places for the steps from each state, a row of 16 for its marks.
-use Rattle.std.specs.Prelude.{◌≡◌, ℕ, ◌+◌, ◌*◌, ◌≤◌, Bool, true, false, cond, ◌&&◌, List, Some, None, Option, nat_le, slice_index_or}
+use Rattle.std.specs.Prelude.{◌≡◌, ℕ, ◌+◌, ◌*◌, ◌<◌, ◌≤◌, Bool, true, false, cond, ◌&&◌, List, Some, None, Option, nat_le, nat_lt, slice_index_or}
 use Rattle.systems.specs.Below.{all_below, any_below}
 use Rattle.systems.specs.Model.{Model}
 use Rattle.systems.specs.Numbers.{is_possible}
@@ -18,6 +18,11 @@ value_at values s p = slice_index_or values (s * 16 + p) Undecided
 
 abbrev pub start_at : List Bool → ℕ → Bool
 start_at starts s = slice_index_or starts s false
+
+-- so many rows of `width` places have an answer in their first columns, and the other places are as they were
+abbrev pub Filled : {A : Type 0} → (width rows columns : ℕ) → (ℕ → ℕ → A) → (old new : List A) → Type 0
+Filled width rows columns answer old new =
+    (s k : ℕ) (d : _) → k < width → slice_index_or new (s * width + k) d ≡ cond (nat_lt s rows && nat_lt k columns) (answer s k) (slice_index_or old (s * width + k) d)
 
 abbrev pub written_model : (states marks : ℕ) → List Step → List Colour → List Bool → Model
 written_model n p steps values starts = record {

@@ -50,10 +50,13 @@ impl Bodies<'_> {
         self.steps.chunks_exact(self.states).all(has_step)
     }
 
-    // Whether some state is a start.
+    // Whether some state is a start. A `contains` has so many branches that the compiler no longer sees through what
+    // stands around it, and copies a table more often.
     pub(crate) fn has_start(&self) -> bool
         ensures { result ≡ any_start self.now.starts.now }
     {
-        self.starts.contains(&1)
+        self.starts
+            .iter()
+            .fold(false, |found, start| found | (*start == 1))
     }
 }

@@ -1,5 +1,6 @@
 // A file that was accepted, as a system that is read where its bytes lie.
 ghost use Rattle.std.specs.Prelude.{◌≡◌, ◌+◌, ◌*◌, ◌<◌, Some, None, length, MatchResult};
+ghost use Rattle.std.proofs.Math.Nat.{le_of_eq};
 ghost use Rattle.tables.specs.Conditions.{LawfulBodies, bodies_fault};
 ghost use Rattle.tables.specs.Files.{body_model, cell};
 ghost use Rattle.tables.specs.laws.FileLaws.{file_lawful};
@@ -42,7 +43,7 @@ fn byte_at(body: &[u8], width: usize, row: usize, column: usize) -> u8
 impl System for TableFile<'_> {
     ghost meaning = { λ f. body_model f.bodies.states f.bodies.marks f.bodies.steps.now f.bodies.values.now f.bodies.starts.now };
 
-    ghost lawful = { λ f. file_lawful f.bodies.states f.bodies.marks f.bodies.steps.now f.bodies.values.now f.bodies.starts.now f.lawful f.bodies.starts_fill f.bodies.ranged };
+    ghost lawful = { λ f. file_lawful f.bodies.states f.bodies.marks f.bodies.steps.now f.bodies.values.now f.bodies.starts.now f.lawful (le_of_eq f.bodies.starts_fill) f.bodies.ranged };
 
     fn states(&self) -> usize {
         self.bodies.states

@@ -45,8 +45,8 @@ module _ (n p : ℕ) (steps marks starts : List ℕ) (bodies : LawfulBodies n st
       let same : byte row on.0 ≡ cell steps n s on.0 = get_or-take (s * n + n - s * n) (drop (s * n) steps) on.0 0 (omega arith) ∙ get_or-drop (s * n) steps on.0 0 in
       (on.0, low, subst (λ b. 0 < b) same (ltb-true _ _ on.2))
 
-  pub file_lawful : length starts ≡ n → InRange n p → Lawful (body_model n p steps marks starts)
-  file_lawful whole range = record {
+  pub file_lawful : length starts ≤ n → InRange n p → Lawful (body_model n p steps marks starts)
+  file_lawful within range = record {
     states_some = range.0;
     states_few = range.1;
     marks_some = range.2;
