@@ -1,12 +1,12 @@
 -- Chains over a range of numbers, in the words of the definitions: `(0..n).any(..)` is `any_below`, and so on.
-use Rattle.std.proofs.Common.{◌≡◌, ℕ, zero, suc, ◌+◌, ◌<◌, Bool, true, false, cond, ◌&&◌, ◌||◌, List, [], ◌∷◌, length, sym, refl, ap, ◌∙◌, arith}
+use Rattle.std.proofs.Common.{◌≡◌, ℕ, zero, suc, ◌+◌, ◌<◌, Bool, true, false, ◌&&◌, ◌||◌, List, sym, refl, ap, ◌∙◌, arith}
 use Rattle.std.proofs.Math.Bool.{or_assoc, or_comm, and_assoc, and_comm}
 use Rattle.std.proofs.iter.Yields.{nat_range_steps}
 use Rattle.std.proofs.lemmas.Iterator.{YieldsList-from_range}
 use Rattle.std.proofs.lemmas.Iterator.Search.{any_from_yields_List, all_from_yields_List}
 use Rattle.std.specs.Fn.{Called}
 use Rattle.std.specs.Iterator.{YieldsThen}
-use Rattle.std.specs.List.{FoldsTo, list_any, list_all, range_with_len, filter}
+use Rattle.std.specs.List.{FoldsTo, list_any, list_all, range_with_len}
 use Rattle.std.specs.Option.{MatchOption}
 use Rattle.std.specs.declared.ops.Range.{Range}
 use Rattle.std.specs.Prelude.{Option}
@@ -30,23 +30,6 @@ module _ (test : ℕ → Bool) where
   pub all_over : (n : ℕ) → list_all test (range_with_len 0 n) ≡ all_below test n
   all_over zero = refl
   all_over (suc n) = rw (all_last 0 n n (omega arith), all_over n) (and_comm (all_below test n) (test n))
-
-  one_more : (b : Bool) (x : ℕ) (ys : List ℕ) → length (cond {A = List ℕ} b (x ∷ ys) ys) ≡ cond {A = ℕ} b 1 0 + length ys
-  one_more true x ys = omega arith
-  one_more false x ys = omega arith
-
-  count_last : (a n j : ℕ) → a + n ≡ j → length (filter test (range_with_len a (suc n))) ≡ length (filter test (range_with_len a n)) + cond {A = ℕ} (test j) 1 0
-  count_last a zero j e =
-      let same : a ≡ j = omega arith in
-      let one : cond {A = ℕ} (test a) 1 0 ≡ cond {A = ℕ} (test j) 1 0 = ap (λ (x : ℕ). cond {A = ℕ} (test x) 1 0) same in
-      omega (arith, one_more (test a) a [])
-  count_last a (suc n) j e =
-      let rest = count_last (a + 1) n j (omega arith) in
-      omega (arith, one_more (test a) a (filter test (range_with_len (a + 1) (suc n))), one_more (test a) a (filter test (range_with_len (a + 1) n)))
-
-  pub count_over : (n : ℕ) → length (filter test (range_with_len 0 n)) ≡ count_below test n
-  count_over zero = refl
-  count_over (suc n) = omega (arith, count_over n, count_last 0 n n (omega arith))
 
 -- tests that agree below n
 module _ (f g : ℕ → Bool) where

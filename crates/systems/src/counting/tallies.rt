@@ -7,13 +7,20 @@ use super::Census;
 use crate::interface::System;
 use crate::kinds::{Colour, Step};
 
-// At how many numbers below n a test passes.
+// At how many numbers below n a test passes. A `for`, which is compiled without a jump on each answer:
+// `filter(..).count()` has one, and takes up to eight times as long.
 fn count_below<F: Fn(usize) -> bool>(n: usize, test: F) -> usize
     requires { F.IsAlwaysCallable test }
     ensures is { (t : ℕ → Bool) → ((k : ℕ) (b : Bool) → F.post test k b → b ≡ t k) → result ≡ count_below t n }
     ensures few { result ≤ n }
 {
-    (0..n).filter(|k| test(*k)).count()
+    let mut count = 0;
+    for k in 0..n {
+        if test(k) {
+            count += 1;
+        }
+    }
+    count
 }
 
 // At how many cells of a table of at most 128 rows and columns a test passes. A `for`, since of `map(..).sum()` it
