@@ -1,6 +1,6 @@
 // The counts and the three bodies of a table file, read where the bytes lie.
-ghost use Rattle.std.specs.Prelude.{◌≡◌, ◌*◌, ◌<◌, ◌≤◌, length, nat_lt};
-ghost use Rattle.std.specs.List.{list_any};
+ghost use Rattle.std.specs.Prelude.{◌≡◌, ℕ, ◌*◌, ◌<◌, ◌≤◌, Bool, length, nat_lt};
+ghost use Rattle.std.specs.List.{list_all, list_any};
 ghost use Rattle.systems.specs.Below.{all_below};
 ghost use Rattle.systems.specs.Tabled.{InRange};
 ghost use Rattle.tables.specs.Conditions.{all_listed, goes, any_start};
@@ -21,12 +21,20 @@ pub(crate) struct Bodies<'a> {
     ghost starts_fill: { length starts.now ≡ states },
 }
 
+// Whether each byte passes a test. There is no way out before the last, so that one turn of the loop tests many bytes.
+fn all_pass<F: Fn(u8) -> bool>(body: &[u8], test: F) -> bool
+    requires { F.IsAlwaysCallable test }
+    ensures { (t : ℕ → Bool) → ((b : ℕ) (r : Bool) → F.post test b r → r ≡ t b) → result ≡ list_all t body.now }
+{
+    body.iter().fold(true, |all, byte| all & test(*byte))
+}
+
 // Whether a row of the steps has a byte that is not 0: by its number, as the definition has it, since whether each
 // byte is listed is another condition.
 fn has_step(row: &[u8]) -> bool
     ensures { result ≡ list_any (λ b. nat_lt 0 b) row.now }
 {
-    row.iter().any(|step| *step != 0)
+    row.iter().fold(false, |found, step| found | (*step != 0))
 }
 
 impl Bodies<'_> {
@@ -34,13 +42,9 @@ impl Bodies<'_> {
     pub(crate) fn is_listed(&self) -> bool
         ensures { result ≡ all_listed self.now.steps.now self.now.values.now self.now.starts.now }
     {
-        let steps = self.steps.iter().all(|step| Step::try_from(*step).is_ok());
-        let values = self
-            .values
-            .iter()
-            .all(|value| Colour::try_from(*value).is_ok());
-        let starts = self.starts.iter().all(|start| *start <= 1);
-        steps && values && starts
+        all_pass(self.steps, |step| Step::try_from(step).is_ok())
+            && all_pass(self.values, |value| Colour::try_from(value).is_ok())
+            && all_pass(self.starts, |start| start <= 1)
     }
 
     // Whether the row of each state has a byte that is not 0.

@@ -15,7 +15,10 @@ fn goes_on(steps: &[Step; 16384], states: usize, state: usize) -> bool
     requires { (states ≤ 128) × (state < states) }
     ensures { result ≡ leads_on steps.now states state }
 {
-    (0..states).any(|to| steps[state * 128 + to].is_possible())
+    (0..states).fold(
+        false,
+        |found, to| found | steps[state * 128 + to].is_possible(),
+    )
 }
 
 // Whether each state has a possible step out.
@@ -31,7 +34,7 @@ fn any_start(starts: &[bool; 128], states: usize) -> bool
     requires { states ≤ 128 }
     ensures { result ≡ any_below (start_at starts.now) states }
 {
-    (0..states).any(|state| starts[state])
+    (0..states).fold(false, |found, state| found | starts[state])
 }
 
 impl Table {

@@ -1,8 +1,8 @@
 use Rattle.std.proofs.Common.{rules}
 use borrow.Author.Tests.{tests}
 use Rattle.systems.specs.Tabled.{start_at}
-use Rattle.systems.proofs.Ranges.{any_in_range}
+use Rattle.systems.proofs.Joining.{any_joined_below}
 use Rattle.systems.proofs.tabled.making.any_start.Goals as goal
 
 pub returns : goal.returns
-returns c = any_in_range (start_at c.args.starts.now) c.args.states _ _ _ c.any.ensures.ran (cc) (λ x b q k. search (rules, tests))
+returns c = any_joined_below (start_at c.args.starts.now) c.args.states _ c.fold.ensures.ran (cc) (λ a x b q k. search (rules, tests))

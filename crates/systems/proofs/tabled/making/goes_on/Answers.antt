@@ -1,8 +1,8 @@
 use Rattle.std.proofs.Common.{rules}
 use borrow.Author.Tests.{tests}
 use Rattle.systems.specs.Tabled.{leads}
-use Rattle.systems.proofs.Ranges.{any_in_range}
+use Rattle.systems.proofs.Joining.{any_joined_below}
 use Rattle.systems.proofs.tabled.making.goes_on.Goals as goal
 
 pub returns : goal.returns
-returns c = any_in_range (leads c.args.steps.now c.args.state) c.args.states _ _ _ c.any.ensures.ran (cc) (λ x b q k. search (rules, tests))
+returns c = any_joined_below (leads c.args.steps.now c.args.state) c.args.states _ c.fold.ensures.ran (cc) (λ a x b q k. search (rules, tests))
