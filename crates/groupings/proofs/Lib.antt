@@ -3,6 +3,8 @@ pub mod Reduced
 pub mod Lists
 pub mod Strengths
 pub mod Sharing
+pub mod Rows
+pub mod Marks
 pub mod Tabling
 pub mod Pigeons
 pub mod Moves

@@ -1,12 +1,8 @@
 -- What the members of a group have in common is what the group is said to be.
-use Rattle.std.proofs.Common.{◌≡◌, ℕ, ◌<◌, Bool, true, false, cond, ◌&&◌, ◌||◌, eqb, List, [], ◌∷◌, map, filter, replicate, get_or, unwrap_or, sym, refl, ap, ◌∙◌, arith, zero, suc, ◌+◌, ◌*◌, ◌++◌, length, set, Some, None, Option, add-one, get_or-set_other, get_or-set_same}
-use native.Mathlib.Decide.{ℕ_discrete}
-use Rattle.std.specs.List.{fold, flat_map, reduce, list_all, list_any, range_with_len}
+use Rattle.std.proofs.Common.{◌≡◌, ℕ, ◌<◌, Bool, true, false, cond, ◌&&◌, ◌||◌, eqb, List, [], ◌∷◌, map, filter, unwrap_or, sym, refl, ap, ◌∙◌, arith, zero, suc, ◌+◌, ◌++◌, Some, None, add-one}
+use Rattle.std.specs.List.{fold, reduce, list_all, list_any, range_with_len}
 use Rattle.std.proofs.Math.Bool.{and-true, and_assoc}
-use Rattle.std.proofs.Math.Nat.{zero-mul, suc-mul}
-use Rattle.std.proofs.lemmas.Bool.{and_parts, eq-eqb, ne_eqb, cond-true, cond-false}
-use Rattle.std.proofs.lemmas.List.{get_or-replicate, length-replicate, get_or_append_left, get_or-append-add}
-use Rattle.std.proofs.lemmas.List.FromFn.{get_or-map-range_with_len, length-map-range_with_len}
+use Rattle.std.proofs.lemmas.Bool.{and_parts}
 use Rattle.systems.specs.Below.{all_below}
 use Rattle.systems.specs.Model.{Model, mark_or_unknown, is_start}
 use Rattle.systems.specs.declared.kinds.Step.{Step}
@@ -16,7 +12,7 @@ use Rattle.systems.specs.declared.kinds.Colour.TheVariants.{Undecided, F, T}
 use Rattle.systems.proofs.Questions.{mark_in_range, start_in_range}
 use Rattle.systems.proofs.Ranges.{all_over, all_alike, any_over, any_alike}
 use Rattle.colours.specs.Groupings.{is_sure, is_absent, is_true, is_false, strength, group_step, group_mark, group_start, start_in}
-use Rattle.groupings.specs.Joined.{joined_step, joined_mark, joined_row, joined_with, shared, asked}
+use Rattle.groupings.specs.Joined.{joined_step, joined_mark, joined_with, shared, asked}
 use Rattle.groupings.proofs.Strengths.{strength_known}
 
 -- an answer that all members must give for it to be the group's: one of two, else a third
@@ -152,57 +148,6 @@ start_is M group g =
     ∙ any_over test M.states
     ∙ any_alike test (start_in M group g) M.states (λ s l. ap (λ b. eqb (group s) g && b) (start_in_range M s l))
 
--- rows that are joined are joined in each place
-module _ {X : Type 0} (width : ℕ) (join : X → X → X) (d : X) (f : ℕ → ℕ → X) (k : ℕ) (low : k < width) where
-  abbrev row : ℕ → List X
-  row s = map (f s) (range_with_len 0 width)
-
-  fold_at : (ss : List ℕ) (xs : List X) (b : X) → ((e : X) → get_or xs k e ≡ b) → (e : X) → get_or (fold (joined_row width join d) xs (map row ss)) k e ≡ fold join b (map (λ s. f s k) ss)
-  fold_at [] xs b at e = at e
-  fold_at (s ∷ ss) xs b at e =
-      fold_at ss (joined_row width join d xs (row s)) (join b (f s k))
-      (λ e.
-      get_or-map-range_with_len (λ j. join (get_or xs j d) (get_or (row s) j d)) 0 width k k e low (omega arith)
-      ∙ ap (λ (x : X). join x (get_or (row s) k d)) (at d)
-      ∙ ap (join b) (get_or-map-range_with_len (f s) 0 width k k d low (omega arith)))
-      e
-
-  fold_long : (ss : List ℕ) (xs : List X) → length xs ≡ width → length (fold (joined_row width join d) xs (map row ss)) ≡ width
-  fold_long [] xs long = long
-  fold_long (s ∷ ss) xs long = fold_long ss (joined_row width join d xs (row s)) (length-map-range_with_len (λ j. join (get_or xs j d) (get_or (row s) j d)) 0 width)
-
-  pub row_at : (ss : List ℕ) (e : X) → get_or (unwrap_or (reduce (joined_row width join d) (map row ss)) (replicate width d)) k e ≡ unwrap_or (reduce join (map (λ s. f s k) ss)) d
-  row_at [] e = get_or-replicate width k d e low
-  row_at (s ∷ ss) e = fold_at ss (row s) (f s k) (λ e. get_or-map-range_with_len (f s) 0 width k k e low (omega arith)) e
-
-  row_long : (ss : List ℕ) → length (unwrap_or (reduce (joined_row width join d) (map row ss)) (replicate width d)) ≡ width
-  row_long [] = length-replicate width d
-  row_long (s ∷ ss) = fold_long ss (row s) (length-map-range_with_len (f s) 0 width)
-
--- rows of one length one after another
-rows_at : {X : Type 0} (width : ℕ) (rows : List (List X)) → ((g : ℕ) → g < length rows → length (get_or rows g []) ≡ width) → (g k : ℕ) (d : X) → g < length rows → k < width → get_or (flat_map (λ xs. xs) rows) (g * width + k) d ≡ get_or (get_or rows g []) k d
-rows_at width [] long g k d l m = absurd (omega arith)
-rows_at width (xs ∷ rows) long zero k d l m =
-    let first = long 0 (omega arith) in
-    let place : zero * width + k ≡ k = omega (arith, zero-mul width) in
-    ap (λ j. get_or (xs ++ flat_map (λ xs. xs) rows) j d) place ∙ get_or_append_left xs (flat_map (λ xs. xs) rows) d k (omega arith)
-rows_at width (xs ∷ rows) long (suc g) k d l m =
-    let first = long 0 (omega arith) in
-    let place : suc g * width + k ≡ length xs + (g * width + k) = omega (arith, suc-mul g width) in
-    ap (λ j. get_or (xs ++ flat_map (λ xs. xs) rows) j d) place
-    ∙ get_or-append-add xs (flat_map (λ xs. xs) rows) (g * width + k) d
-    ∙ rows_at width rows (λ h low. long (suc h) (omega arith)) g k d (omega arith) m
-
--- the rows of what groups share, one after another
-pub flat_rows :
-    {X : Type 0} (width : ℕ) (join : X → X → X) (d : X) (f : ℕ → ℕ → X) (members : ℕ → List ℕ) (rows : List (List X)) → length rows ≡ 128
-    → ((g : ℕ) (e : List X) → g < 128 → get_or rows g e ≡ unwrap_or (reduce (joined_row width join d) (map (λ s. map (f s) (range_with_len 0 width)) (members g))) (replicate width d))
-    → (g k : ℕ) (e : X) → g < 128 → k < width → get_or (flat_map (λ xs. xs) rows) (g * width + k) e ≡ unwrap_or (reduce join (map (λ s. f s k) (members g))) d
-flat_rows width join d f members rows all at g k e l m =
-    rows_at width rows (λ h low. ap length (at h [] (omega arith)) ∙ row_long width join d f k m (members h)) g k e (omega arith) m
-    ∙ ap (λ xs. get_or xs k e) (at g [] l)
-    ∙ row_at width join d f k m (members g) e
-
 -- one more state
 module _ {X : Type 0} (join : X → X → X) (member : ℕ → Bool) (f : ℕ → X) where
   range_last : (a n j : ℕ) → a + n ≡ j → range_with_len a (suc n) ≡ range_with_len a n ++ j ∷ []
@@ -231,22 +176,5 @@ module _ {X : Type 0} (join : X → X → X) (member : ℕ → Bool) (f : ℕ �
         | false ↦ reduce_last ss j
       ]
 
-  shared_more : (i : ℕ) → shared join member f (i + 1) ≡ cond (member i) (Some (joined_with join (shared join member f i) (f i))) (shared join member f i)
+  pub shared_more : (i : ℕ) → shared join member f (i + 1) ≡ cond (member i) (Some (joined_with join (shared join member f i) (f i))) (shared join member f i)
   shared_more i = rw (add-one i) (ap (λ (ss : List ℕ). reduce join (chosen ss)) (range_last 0 i i (omega arith)) ∙ reduce_last (range_with_len 0 i) i)
-
--- one more state joined to what the members of its group share
-pub rows_more :
-    {X : Type 0} (join : X → X → X) (group : ℕ → ℕ) (f : ℕ → X) (i : ℕ) (rows : List (Option X)) (h : ℕ) (o : Option X) (x v : X)
-    → h ≡ group i → h < length rows → o ≡ get_or rows h None → x ≡ f i → v ≡ joined_with join o x
-    → ((g : ℕ) → g < 128 → get_or rows g None ≡ shared join (λ s. eqb (group s) g) f i)
-    → (g : ℕ) → g < 128 → get_or (set rows h (Some v)) g None ≡ shared join (λ s. eqb (group s) g) f (i + 1)
-rows_more join group f i rows h o x v at low is told new so_far g l = elim (ℕ_discrete g h) [
-  | yes e ↦
-      let before : o ≡ shared join (λ s. eqb (group s) g) f i = is ∙ ap (λ k. get_or rows k None) (sym e) ∙ so_far g l in
-      ap (λ k. get_or (set rows h (Some v)) k None) e ∙ get_or-set_same rows h (Some v) None low
-      ∙ ap Some (new ∙ ap (λ p. joined_with join p x) before ∙ ap (joined_with join (shared join (λ s. eqb (group s) g) f i)) told)
-      ∙ sym (shared_more join (λ s. eqb (group s) g) f i ∙ cond-true _ _ _ (eq-eqb (group i) g (sym (e ∙ at))))
-  | no n ↦
-      get_or-set_other rows h g (Some v) None n ∙ so_far g l
-      ∙ sym (shared_more join (λ s. eqb (group s) g) f i ∙ cond-false _ _ _ (ne_eqb (group i) g (λ q. n (sym (at ∙ q)))))
-]

@@ -3,7 +3,7 @@ use Rattle.std.proofs.Common.{◌≡◌, ℕ, zero, suc, ◌+◌, ◌<◌, Bool,
 use native.Mathlib.Decide.{ℕ_discrete}
 use Rattle.std.specs.List.{fold, reduce, range_with_len}
 use Rattle.std.specs.Ordering.{ord_max, max_by_ordering}
-use Rattle.std.proofs.lemmas.Bool.{cases_Bool, eq-eqb, ne_eqb}
+use Rattle.std.proofs.lemmas.Bool.{cases_Bool, eq-eqb, ne_eqb, cond-false}
 use Rattle.std.proofs.lemmas.Grind.{get_or-set_at}
 use Rattle.systems.specs.Model.{Model}
 use Rattle.systems.specs.contracts.kinds.StepOrd.TheImpl.{ghosts}
@@ -35,6 +35,15 @@ pub strength_known : (M : Model) (group : ℕ → ℕ) (s h : ℕ) → s < M.sta
 unfolding strength
 strength_known M group s h l =
     surest_same (step_into (asked M) group s h) (step_into M group s h) M.states (λ t k. ap (λ x. cond (eqb (group t) h) x Absent) (step_in_range M s l t k))
+
+surest_absent : (a : ℕ → Step) (n : ℕ) → ((t : ℕ) → t < n → a t ≡ Absent) → surest a n ≡ Absent
+surest_absent a zero none = refl
+surest_absent a (suc n) none = rw (surest_absent a n (λ t l. none t (omega arith)), none n (omega arith)) refl
+
+-- no state has a strength into a group with no member
+pub none_into : (M : Model) (group : ℕ → ℕ) (s h : ℕ) → ((t : ℕ) → t < M.states → ¬ (group t ≡ h)) → strength M group s h ≡ Absent
+unfolding strength
+none_into M group s h none = surest_absent (step_into M group s h) M.states (λ t l. cond-false _ _ _ (ne_eqb (group t) h (none t l)))
 
 -- the greatest of the steps to the members
 module _ (pick : Step → Step → Step) (is : (a b : Step) → pick a b ≡ surer a b) where

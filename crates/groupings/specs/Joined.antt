@@ -1,5 +1,5 @@
 -- What the members of a group have in common, member by member.
-use Rattle.std.specs.Prelude.{ℕ, Bool, cond, ◌&&◌, List, map, filter, slice_index_or, Some, None, Option}
+use Rattle.std.specs.Prelude.{◌≡◌, ℕ, ◌<◌, ◌≤◌, Bool, cond, ◌&&◌, map, filter, Some, None, Option}
 use Rattle.std.specs.List.{reduce, range_with_len}
 use Rattle.systems.specs.Model.{Model, step_or_absent, mark_or_unknown, is_start}
 use Rattle.systems.specs.declared.kinds.Step.{Step}
@@ -16,10 +16,6 @@ joined_step a k = cond (is_sure a && is_sure k) Sure (cond (is_absent a && is_ab
 abbrev pub joined_mark : (so_far next : Colour) → Colour
 joined_mark a v = cond (is_true a && is_true v) T (cond (is_false a && is_false v) F Undecided)
 
--- each answer of a row of so many with what is in its place in the other row
-abbrev pub joined_row : {A : Type 0} → (width : ℕ) → (A → A → A) → (of_none : A) → (so_far next : List A) → List A
-joined_row width join of_none xs ys = map (λ k. join (slice_index_or xs k of_none) (slice_index_or ys k of_none)) (range_with_len 0 width)
-
 -- the first member's answer is taken as it is, a later one is joined to those before
 abbrev pub joined_with : {A : Type 0} → (A → A → A) → (so_far : Option A) → (next : A) → A
 joined_with join None x = x
@@ -28,6 +24,10 @@ joined_with join (Some a) x = join a x
 -- what the members among the first n states have in common, if there is a member: the first one's answer as it is, each later one joined to it
 abbrev pub shared : {A : Type 0} → (A → A → A) → (member : ℕ → Bool) → (answer : ℕ → A) → ℕ → Option A
 shared join member answer n = reduce join (map answer (filter member (range_with_len 0 n)))
+
+-- beyond the first `width` of so many places all rows say the same, which stays when it is joined
+abbrev pub AlikeFrom : {A : Type 0} → (A → A → A) → (width places : ℕ) → (says : ℕ → ℕ → A) → (rest : A) → Type 0
+AlikeFrom join width places says rest = (join rest rest ≡ rest) × ((s k : ℕ) → width ≤ k → k < places → says s k ≡ rest)
 
 -- a system whose questions have an answer out of range too: there is no step, the mark is unknown, and it is no start
 abbrev pub asked : Model → Model

@@ -8,7 +8,6 @@ ghost use Rattle.groupings.specs.Members.{group_of};
 ghost use Rattle.groupings.specs.Memberships.{groups_of};
 
 use super::fitted::Fitted;
-use std::array;
 use systems::{Colour, Step, System};
 
 impl<S: System> Fitted<'_, S> {
@@ -40,7 +39,11 @@ impl<S: System> Fitted<'_, S> {
     pub(super) fn marks_at(&self, state: usize) -> [Colour; 16]
         ensures { result ≡ map (mark_or_unknown (S.meaning self.now.system.now) state) (range_with_len 0 16) }
     {
-        array::from_fn(|mark| self.system.mark_or_unknown(state, mark))
+        let mut row = [Colour::Undecided; 16];
+        for mark in 0..self.system.marks() {
+            row[mark] = self.system.mark_or_unknown(state, mark);
+        }
+        row
     }
 
     // The step between two groups: sure or absent if it is so from every member, else unsure.

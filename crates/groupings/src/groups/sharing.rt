@@ -1,13 +1,14 @@
 // What the members of a group have in common.
-ghost use Rattle.std.specs.Prelude.{◌≡◌, ◌==◌, ℕ, ◌<◌, ◌||◌, false, None, replicate, slice_index_or, unwrap_or};
+ghost use Rattle.std.specs.Prelude.{◌≡◌, ◌==◌, ℕ, ◌+◌, ◌*◌, ◌<◌, ◌≤◌, ◌||◌, false, List, length, map, slice_index_or, unwrap_or};
+ghost use Rattle.std.specs.Bool.{then_some};
+ghost use Rattle.std.specs.List.{range_with_len};
 ghost use Rattle.systems.specs.declared.kinds.Step.TheVariants.{Sure};
 ghost use Rattle.systems.specs.declared.kinds.Colour.TheVariants.{T};
-ghost use Rattle.groupings.specs.Joined.{joined_step, joined_mark, joined_row, joined_with, shared};
+ghost use Rattle.groupings.specs.Joined.{joined_step, joined_mark, joined_with, shared, AlikeFrom};
 ghost use Rattle.groupings.specs.Members.{group_of};
 ghost use Rattle.groupings.specs.Memberships.{groups_of};
 
 use super::fitted::Fitted;
-use std::array;
 use systems::{Colour, Step, System};
 
 // An answer of a group that is joined of its members' answers: a step or a mark is one of two where
@@ -36,11 +37,7 @@ impl Shared for Step {
     }
 
     fn joined(self, other: Step) -> Step {
-        match (self, other) {
-            (Step::Sure, Step::Sure) => Step::Sure,
-            (Step::Absent, Step::Absent) => Step::Absent,
-            _ => Step::Unsure,
-        }
+        if self == other { self } else { Step::Unsure }
     }
 }
 
@@ -54,10 +51,10 @@ impl Shared for Colour {
     }
 
     fn joined(self, other: Colour) -> Colour {
-        match (self, other) {
-            (Colour::T, Colour::T) => Colour::T,
-            (Colour::F, Colour::F) => Colour::F,
-            _ => Colour::Undecided,
+        if self == other {
+            self
+        } else {
+            Colour::Undecided
         }
     }
 }
@@ -76,23 +73,19 @@ impl Shared for bool {
     }
 }
 
-// A row of answers, each with what is in its place in the other row.
-impl<A: Shared, const W: usize> Shared for [A; W] {
-    ghost of_none = { replicate W A.of_none };
+// A row of so many answers. It's a trait, since the bound of a closure can't name an array whose length is a parameter.
+pub(super) trait Row<A, const W: usize>: Copy {
+    ghost answers: { Self → List A };
 
-    ghost joined = { joined_row W A.joined A.of_none };
+    fn answers(&self) -> &[A; W]
+        ensures { result.now ≡ answers self.now };
+}
 
-    fn of_none() -> [A; W] {
-        [A::of_none(); W]
-    }
+impl<A: Copy, const W: usize> Row<A, W> for [A; W] {
+    ghost answers = { λ row. row };
 
-    fn joined(self, other: [A; W]) -> [A; W] {
-        array::from_fn(
-            |k| -> A
-                requires { k < W }
-                ensures { result ≡ A.joined (slice_index_or self k A.of_none) (slice_index_or other k A.of_none) }
-            { self[k].joined(other[k]) },
-        )
+    fn answers(&self) -> &[A; W] {
+        self
     }
 }
 
@@ -106,16 +99,18 @@ fn joined_with<A: Shared>(so_far: Option<A>, next: A) -> A
     }
 }
 
-// What is shared in each group, and the answer of no member where there is none.
-pub(super) fn settled<A: Shared>(found: &[Option<A>; 128]) -> [A; 128]
-    ensures { (g : ℕ) (d : A) → g < 128 → slice_index_or result g d ≡ unwrap_or (slice_index_or found.now g None) A.of_none }
+// Joins the first places of a row, `count` many, to those from `start` on, which hold what the rows before it have in
+// common where one was found.
+fn join_row<A: Shared>(places: &mut [A], start: usize, found: bool, row: &[A], count: usize)
+    requires room { start + count ≤ length places.old }
+    requires long { count ≤ length row.now }
+    ensures joined { (k : ℕ) → k < count → slice_index_or places.new (start + k) A.of_none ≡ joined_with A.joined (then_some found (slice_index_or places.old (start + k) A.of_none)) (slice_index_or row.now k A.of_none) }
+    ensures others { (at : ℕ) → ((k : ℕ) → k < count → ¬ (at ≡ start + k)) → slice_index_or places.new at A.of_none ≡ slice_index_or places.old at A.of_none }
 {
-    array::from_fn(
-        |group| -> A
-            requires { group < 128 }
-            ensures { result ≡ unwrap_or (slice_index_or found.entry.now group None) A.of_none }
-        { found[group].unwrap_or(A::of_none()) },
-    )
+    for k in 0..count {
+        let at = start + k;
+        places[at] = joined_with(found.then_some(places[at]), row[k]);
+    }
 }
 
 impl<S: System> Fitted<'_, S> {
@@ -131,21 +126,27 @@ impl<S: System> Fitted<'_, S> {
             .unwrap_or(A::of_none())
     }
 
-    // Finds what the members of each group have in common, by one pass over the states: with a search
-    // for each group a refinement took 1.6 to 2.8 times as long. The array is lent, since of an open
-    // type it stays open here that 128 of them fit into memory.
-    pub(super) fn share_all<A: Shared, F: Fn(usize) -> A>(
+    // Writes what the rows of each group's members have in common into the row of the group, and leaves the rows of
+    // groups with no member. It takes one pass over the states: with a search for each group a refinement took 1.6 to
+    // 2.8 times as long. A group's first row is taken whole; of a later one no more than the first places, `width`
+    // many, are joined, since beyond them all rows are alike.
+    pub(super) fn share_all<A: Shared, const W: usize, R: Row<A, W>, F: Fn(usize) -> R>(
         &self,
-        found: &mut [Option<A>; 128],
-        answer: F,
+        places: &mut [A],
+        width: usize,
+        row: F,
     )
         requires callable { (f : F) (s : ℕ) → F.pre f s }
-        requires empty { (g : ℕ) → g < 128 → slice_index_or found.old g None ≡ None }
-        ensures { (says : ℕ → A) → ((s : ℕ) (a : A) → F.post answer s a → a ≡ says s) → (g : ℕ) → g < 128 → slice_index_or found.new g None ≡ shared A.joined (λ s. group_of (groups_of self.now.members) s == g) says (S.meaning self.now.system.now).states }
+        requires long { length places.old ≡ 128 * W }
+        requires wide { width ≤ W }
+        ensures { (says : ℕ → ℕ → A) (rest : A) → ((s : ℕ) (r : R) → F.post row s r → R.answers r ≡ map (says s) (range_with_len 0 W)) → AlikeFrom A.joined width W says rest → (g k : ℕ) (d : A) → g < 128 → k < W → slice_index_or places.new (g * W + k) d ≡ unwrap_or (shared A.joined (λ s. group_of (groups_of self.now.members) s == g) (λ s. says s k) (S.meaning self.now.system.now).states) (slice_index_or places.old (g * W + k) d) }
     {
+        let mut found = [false; 128];
         for state in 0..self.system.states() {
             let group = self.members.group_of(state);
-            found[group] = Some(joined_with(found[group], answer(state)));
+            let count = if found[group] { width } else { W };
+            join_row(places, group * W, found[group], row(state).answers(), count);
+            found[group] = true;
         }
     }
 }

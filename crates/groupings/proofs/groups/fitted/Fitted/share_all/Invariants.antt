@@ -1,10 +1,14 @@
-use Rattle.std.proofs.Common.{◌≡◌, ℕ, ◌<◌, None, eqb, get_or}
-use Rattle.groupings.specs.Joined.{shared}
+use Rattle.std.proofs.Common.{◌≡◌, ℕ, map, length}
+use Rattle.std.specs.List.{range_with_len}
+use Rattle.groupings.specs.Joined.{AlikeFrom}
 use Rattle.groupings.specs.Members.{group_of}
 use Rattle.groupings.specs.Memberships.{groups_of}
+use Rattle.groupings.proofs.Rows.{Joined}
 use Rattle.groupings.proofs.groups.fitted.Fitted.share_all.Given as goal
 
 abbrev pub invariant-loop-state : goal.invariant-loop-state
 invariant-loop-state g l =
-    (says : ℕ → _) → ((s : ℕ) (a : _) → goal.F-post g l.answer s a → a ≡ says s) → (h : ℕ) → h < 128
-    → get_or l.found h None ≡ shared g.A.Shared.joined (λ s. eqb (group_of (groups_of l.self.members) s) h) says l.state
+    let join = g.A.Shared.joined in
+    (length l.found ≡ 128)
+    × ((says : ℕ → ℕ → _) (rest : _) → ((s : ℕ) (r : _) → goal.F-post g l.row s r → g.R.Row.answers r ≡ map (says s) (range_with_len 0 g.row.W))
+    → AlikeFrom join l.width g.row.W says rest → Joined join (group_of (groups_of l.self.members)) g.row.W g.A.Shared.of_none says l.state l.found l.initial.places l.places)
