@@ -1,4 +1,3 @@
-pub mod Made
 pub mod Reduced
 pub mod Lists
 pub mod Strengths

@@ -10,7 +10,7 @@ use Rattle.groupings.proofs.Pigeons.{enough}
 
 module _
     (m : Membership) (flags : List Bool) (after : List ℕ)
-    (at : (s : ℕ) → s < 128 → group_of after s ≡ cond (flagged flags s) m.groups (group_of m.numbers s))
+    (at : (s : ℕ) → s < m.states → group_of after s ≡ cond (flagged flags s) m.groups (group_of m.numbers s))
     (some : (s : ℕ) × (s < length (groups_of m)) × (flagged flags s ≡ true))
     (kept : (g : ℕ) → g < group_count (groups_of m) → (s : ℕ) × (s < length (groups_of m)) × (group_of (groups_of m) s ≡ g) × (flagged flags s ≡ false))
   where
@@ -19,11 +19,11 @@ module _
         ⊎_elim
         (λ (e : g ≡ m.groups).
         let low : some.0 < m.states = omega (arith, some.1, states_are m) in
-        (some.0, low, at some.0 (omega (arith, m.sized.2)) ∙ cond-true (flagged flags some.0) _ _ some.2 ∙ sym e))
+        (some.0, low, at some.0 low ∙ cond-true (flagged flags some.0) _ _ some.2 ∙ sym e))
         (λ (e : g ≡ m.groups → ⊥).
         let u = kept g (omega (arith, groups_are m)) in
         let low : u.0 < m.states = omega (arith, u.1, states_are m) in
-        (u.0, low, at u.0 (omega (arith, m.sized.2)) ∙ cond-false (flagged flags u.0) _ _ u.3 ∙ sym (number_at m u.0 low) ∙ u.2))
+        (u.0, low, at u.0 low ∙ cond-false (flagged flags u.0) _ _ u.3 ∙ sym (number_at m u.0 low) ∙ u.2))
         (cases_eq g m.groups)
 
     pub moved_numbered : length after ≡ 128 → Sized after m.states (m.groups + 1) × Numbered after m.states (m.groups + 1)
@@ -32,7 +32,7 @@ module _
       (
         λ s l.
             let old = m.numbered.0 s l in
-            subst (λ (k : ℕ). k < m.groups + 1) (sym (at s (omega (arith, m.sized.2))))
+            subst (λ (k : ℕ). k < m.groups + 1) (sym (at s l))
             (cond_both (flagged flags s) m.groups (group_of m.numbers s) (λ (k : ℕ). k < m.groups + 1) (λ _. omega arith) (λ _. omega arith)),
         λ g l. let u = used g l in any_from (λ s. eqb (group_of after s) g) m.states u.0 u.1 (eq-eqb (group_of after u.0) g u.2),
       ),

@@ -1,10 +1,12 @@
 -- Flagging the members that do not answer as the lowest-numbered one does splits the group as it should.
-use Rattle.std.proofs.Common.{◌≡◌, ℕ, zero, suc, ◌+◌, ◌<◌, ◌≤◌, Decides, Bool, true, false, List, [], ◌∷◌, length, Option, Some, None, Ok, sym, refl, ap, ◌∙◌, subst, ⊎_elim, add-one, arith}
+use Rattle.std.proofs.Common.{◌≡◌, ℕ, zero, suc, ◌+◌, ◌<◌, ◌≤◌, Decides, Bool, true, false, List, [], ◌∷◌, length, replicate, take, set, Option, Some, None, Ok, sym, refl, ap, ◌∙◌, subst, ⊎_elim, add-one, not-suc-le-zero, arith, length-set, get_or-set_other}
+use native.Mathlib.Decide.{ℕ_discrete}
 use Rattle.std.specs.List.{list_any}
 use Rattle.std.specs.Option.{ok_or}
 use Rattle.std.proofs.lemmas.Bool.{cases_Bool, cases_eq, cases_lt, both_ways, eq-eqb, cond-true, cond-false}
 use Rattle.std.proofs.lemmas.Bool.Decides.{Decides-like}
-use Rattle.std.proofs.lemmas.List.{get_or_past}
+use Rattle.std.proofs.lemmas.Grind.{get_or-set_at}
+use Rattle.std.proofs.lemmas.List.{get_or-replicate, get_or_past}
 use Rattle.systems.specs.Model.{Model}
 use Rattle.colours.specs.Groupings.{Alike, group_named, strength}
 use Rattle.colours.specs.declared.chains.Reason.{Reason}
@@ -22,17 +24,62 @@ use Rattle.groupings.specs.declared.groups.answers.Answer.TheVariants.{Mark, Str
 use Rattle.groupings.specs.declared.members.Membership.{Membership}
 use Rattle.groupings.specs.Splits.{Within, Concerned, MembersDiffer, Divided, Told}
 
--- a flag among the flags
-found_flag : (flags : List Bool) → list_any (λ b. b) flags ≡ true → (s : ℕ) × (flagged flags s ≡ true)
-found_flag [] e = absurd (both_ways false refl e)
-found_flag (true ∷ flags) e = (0, refl)
-found_flag (false ∷ flags) e = let rest = found_flag flags e in (rest.0 + 1, rw add-one rest.1)
+-- one of the first n is flagged
+abbrev pub any_flagged : List Bool → ℕ → Bool
+any_flagged flags n = list_any (λ b. b) (take n flags)
 
-flag_found : (flags : List Bool) (s : ℕ) → flagged flags s ≡ true → list_any (λ b. b) flags ≡ true
-flag_found [] s e = absurd (both_ways false refl e)
-flag_found (true ∷ flags) s e = refl
-flag_found (false ∷ flags) zero e = absurd (both_ways false refl e)
-flag_found (false ∷ flags) (suc s) e = flag_found flags s e
+found_flag : (n : ℕ) (flags : List Bool) → any_flagged flags n ≡ true → (s : ℕ) × (flagged flags s ≡ true)
+found_flag zero flags e = absurd (both_ways false refl e)
+found_flag (suc n) [] e = absurd (both_ways false refl e)
+found_flag (suc n) (true ∷ flags) e = (0, refl)
+found_flag (suc n) (false ∷ flags) e = let rest = found_flag n flags e in (rest.0 + 1, rw add-one rest.1)
+
+flag_found : (n : ℕ) (flags : List Bool) (s : ℕ) → s < n → flagged flags s ≡ true → any_flagged flags n ≡ true
+flag_found zero flags s l e = absurd (not-suc-le-zero l)
+flag_found (suc n) [] s l e = absurd (both_ways false refl e)
+flag_found (suc n) (true ∷ flags) s l e = refl
+flag_found (suc n) (false ∷ flags) zero l e = absurd (both_ways false refl e)
+flag_found (suc n) (false ∷ flags) (suc s) l e = flag_found n flags s (omega arith) e
+
+-- flags at 128 states, of which i are set, one by one, to tell of P
+module _ (P : ℕ → Type 0) where
+  pub record Flagged (i : ℕ) (flags : List Bool) : Type 0 where
+    pub long : length flags ≡ 128
+    pub tells : (s : ℕ) → s < i → Decides (flagged flags s) (P s)
+    pub none : (s : ℕ) → i ≤ s → flagged flags s ≡ false
+
+  pub flagged_none : Flagged 0 (replicate 128 false)
+  flagged_none = record {
+    long = refl;
+    tells = λ s l. absurd (not-suc-le-zero l);
+    none = λ s l.
+        ⊎_elim
+        (λ (k : s < 128). get_or-replicate 128 s false false k)
+        (λ (k : 128 ≤ s). get_or_past (replicate 128 false) s false k)
+        (cases_lt s 128);
+  }
+
+  pub flagged_more : (i : ℕ) (flags : List Bool) (b : Bool) → i < 128 → Decides b (P i) → Flagged i flags → Flagged (i + 1) (set flags i b)
+  flagged_more i flags b low decides f =
+      let within : i < length flags = omega (arith, f.long) in
+      record {
+        long = length-set flags i b ∙ f.long;
+        tells = λ s l. elim (ℕ_discrete s i) [
+          | yes e ↦
+              subst (λ (c : Bool). Decides c (P s)) (sym (get_or-set_at flags i s b false e within))
+              (subst (λ (z : ℕ). Decides b (P z)) (sym e) decides)
+          | no n ↦ subst (λ (c : Bool). Decides c (P s)) (sym (get_or-set_other flags i s b false n)) (f.tells s (omega arith))
+        ];
+        none = λ s l. get_or-set_other flags i s b false (λ e. omega (arith, e)) ∙ f.none s (omega arith);
+      }
+
+  -- where P holds of none of the others
+  pub flagged_all : (i : ℕ) (flags : List Bool) → ((s : ℕ) → P s → s < i) → Flagged i flags → (s : ℕ) → Decides (flagged flags s) (P s)
+  flagged_all i flags low f s =
+      ⊎_elim
+      (λ (l : s < i). f.tells s l)
+      (λ (l : i ≤ s). ((λ e. absurd (both_ways (flagged flags s) (f.none s l) e)), (λ p. absurd (omega (arith, low s p)))))
+      (cases_lt s i)
 
 module _ (M : Model) (group : ℕ → ℕ) where
   pub alike_told : (reason : Reason) (s t : ℕ) → Alike M group reason s t → answer_of M group reason s ≡ answer_of M group reason t
@@ -81,7 +128,7 @@ module _ (M : Model) (reason : Reason) (xs : List ℕ) (flags : List Bool) (lead
       ((λ e. absurd (both_ways (flagged flags s) (get_or_past flags s false (omega arith)) e)), (λ p. absurd (omega (arith, p.0.0)))))
       (cases_lt s 128)
 
-module _ (M : Model) (reason : Reason) (xs : List ℕ) (flags : List Bool) (fits : length xs ≡ M.states) (told : Told M reason xs flags) where
+module _ (M : Model) (reason : Reason) (xs : List ℕ) (flags : List Bool) (fits : length xs ≡ M.states) (told : Told M reason xs flags) (n : ℕ) (all : n ≡ length xs) where
   unflagged : (s : ℕ) → ¬ (flagged flags s ≡ true) → flagged flags s ≡ false
   unflagged s n = ⊎_elim (λ e. absurd (n e)) (λ e. e) (cases_Bool (flagged flags s))
 
@@ -92,25 +139,25 @@ module _ (M : Model) (reason : Reason) (xs : List ℕ) (flags : List Bool) (fits
   elsewhere s n = unflagged s (λ e. n ((told.at s).0 e).0)
 
   -- where none is flagged, all members answer alike
-  pub none_differ : list_any (λ b. b) flags ≡ false → ¬ MembersDiffer M reason xs
+  pub none_differ : any_flagged flags n ≡ false → ¬ MembersDiffer M reason xs
   none_differ none differ =
       let as_lead : (s : ℕ) → Concerned M reason xs s → Alike M (group_of xs) reason told.lead s = λ s m.
       elim (alike? M (group_of xs) reason told.lead s) [
         | yes a ↦ a
-        | no n ↦ absurd (both_ways (list_any (λ b. b) flags) none (flag_found flags s ((told.at s).1 (m, n))))
+        | no d ↦ absurd (both_ways (any_flagged flags n) none (flag_found n flags s (omega (arith, m.0)) ((told.at s).1 (m, d))))
       ] in
       differ.4 (through M (group_of xs) reason told.lead differ.0 differ.1 (as_lead differ.0 differ.2) (as_lead differ.1 differ.3))
 
   -- where one is flagged, two differ
-  pub one_leaves : list_any (λ b. b) flags ≡ true → (s : ℕ) × (s < length xs) × (flagged flags s ≡ true)
+  pub one_leaves : any_flagged flags n ≡ true → (s : ℕ) × (s < length xs) × (flagged flags s ≡ true)
   one_leaves some =
-      let one = found_flag flags some in
+      let one = found_flag n flags some in
       let tells = (told.at one.0).0 one.1 in
       (one.0, omega (arith, tells.0.0), one.1)
 
-  pub two_differ : list_any (λ b. b) flags ≡ true → MembersDiffer M reason xs
+  pub two_differ : any_flagged flags n ≡ true → MembersDiffer M reason xs
   two_differ some =
-      let one = found_flag flags some in
+      let one = found_flag n flags some in
       let tells = (told.at one.0).0 one.1 in
       (told.lead, one.0, told.member, tells.0, tells.1)
 

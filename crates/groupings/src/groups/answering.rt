@@ -19,24 +19,27 @@ impl<S: System> System for Grouping<S> {
     }
 
     fn step(&self, from: usize, to: usize) -> Result<Step, Refusal> {
-        let groups = self.states();
+        let fitted = self.fitted();
+        let groups = fitted.members.groups();
         if from >= groups || to >= groups {
             return Err(Refusal::OutOfRange);
         }
-        Ok(self.fitted().step(from, to))
+        Ok(fitted.step(from, to))
     }
 
     fn mark(&self, state: usize, mark: usize) -> Result<Colour, Refusal> {
-        if state >= self.states() || mark >= self.marks() {
+        let fitted = self.fitted();
+        if state >= fitted.members.groups() || mark >= self.marks() {
             return Err(Refusal::OutOfRange);
         }
-        Ok(self.fitted().mark(state, mark))
+        Ok(fitted.mark(state, mark))
     }
 
     fn start(&self, state: usize) -> Result<bool, Refusal> {
-        if state >= self.states() {
+        let fitted = self.fitted();
+        if state >= fitted.members.groups() {
             return Err(Refusal::OutOfRange);
         }
-        Ok(self.fitted().start(state))
+        Ok(fitted.start(state))
     }
 }

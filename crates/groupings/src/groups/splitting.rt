@@ -13,7 +13,6 @@ use super::answers::Answer;
 use super::fitted::Fitted;
 use crate::members::Membership;
 use colours::Reason;
-use std::array;
 use systems::{Refusal, System};
 
 // Whether the group of a reason and its mark or target exist.
@@ -63,7 +62,11 @@ impl<S: System> Fitted<'_, S> {
         ensures { Told (S.meaning self.now.system.now) reason (groups_of self.now.members) result }
     {
         let lead = self.answer(reason, self.members.lowest(group_in(reason)));
-        array::from_fn(|state| self.departs(reason, lead, state))
+        let mut flags = [false; 128];
+        for state in 0..self.members.states() {
+            flags[state] = self.departs(reason, lead, state);
+        }
+        flags
     }
 
     // The groups after a split, or none where all members answer alike.
@@ -72,7 +75,7 @@ impl<S: System> Fitted<'_, S> {
         ensures { MatchOption result (MembersDiffer (S.meaning self.now.system.now) reason (groups_of self.now.members) → ⊥) (λ m. MembersDiffer (S.meaning self.now.system.now) reason (groups_of self.now.members) × Divided (S.meaning self.now.system.now) reason (groups_of self.now.members) (groups_of m)) }
     {
         let flags = self.dissenting(reason);
-        if flags.iter().any(|flag| *flag) {
+        if flags[..self.members.states()].iter().any(|flag| *flag) {
             Some(self.members.moved(&flags))
         } else {
             None

@@ -4,13 +4,20 @@ ghost use Rattle.groupings.specs.Members.{group_of, group_count, flagged, Moved}
 ghost use Rattle.groupings.specs.Memberships.{groups_of};
 
 use super::Membership;
-use std::array;
 
-// The numbers with this one at each place that is flagged.
-fn renumbered(numbers: &[u8; 128], number: u8, flags: &[bool; 128]) -> [u8; 128]
-    ensures { (s : ℕ) → s < 128 → group_of result s ≡ (if flagged flags.now s then number else group_of numbers.now s) }
+// The numbers with this one at each of the first states that is flagged.
+fn renumbered(numbers: &[u8; 128], states: usize, number: u8, flags: &[bool; 128]) -> [u8; 128]
+    requires { states ≤ 128 }
+    ensures at { (s : ℕ) → s < states → group_of result s ≡ (if flagged flags.now s then number else group_of numbers.now s) }
+    ensures rest { (s : ℕ) → states ≤ s → group_of result s ≡ group_of numbers.now s }
 {
-    array::from_fn(|state| if flags[state] { number } else { numbers[state] })
+    let mut after = *numbers;
+    for state in 0..states {
+        if flags[state] {
+            after[state] = number;
+        }
+    }
+    after
 }
 
 impl Membership {
@@ -21,7 +28,12 @@ impl Membership {
         ensures { Moved flags.now (groups_of self.now) (groups_of result) }
     {
         Membership {
-            numbers: renumbered(&self.numbers, u8::try_from(self.groups).unwrap(), flags),
+            numbers: renumbered(
+                &self.numbers,
+                self.states,
+                u8::try_from(self.groups).unwrap(),
+                flags,
+            ),
             states: self.states,
             groups: self.groups + 1,
         }

@@ -12,7 +12,7 @@ invariant_of-result c =
     let m = c.args.self.now in
     let flags = c.args.flags.now in
     let told : c.unwrap.result ≡ m.groups = search (rules, tests) in
-    let at = λ (s : ℕ) (l : s < 128). c.renumbered.ensures s l ∙ ap (λ (k : ℕ). cond (flagged flags s) k (group_of m.numbers s)) told in
+    let at = λ (s : ℕ) (l : s < m.states). c.renumbered.ensures.at s l ∙ ap (λ (k : ℕ). cond (flagged flags s) k (group_of m.numbers s)) told in
     let table = moved_numbered m flags c.renumbered.result at c.requires.some c.requires.kept (search rules) in
     record { sized = table.0; numbered = table.1 }
 
@@ -25,7 +25,7 @@ returns c =
       length-take-le m.states after (omega (arith, m.sized.2)) ∙ sym (states_are m),
       λ s l.
           let low : s < m.states = omega (arith, states_are m) in
-          get_or-take m.states after s 0 low ∙ c.renumbered.ensures s (omega (arith, m.sized.2))
+          get_or-take m.states after s 0 low ∙ c.renumbered.ensures.at s low
           ∙ ap (λ (k : ℕ). cond (flagged flags s) k (group_of m.numbers s)) (told ∙ sym (groups_are m))
           ∙ ap (λ (k : ℕ). cond (flagged flags s) (group_count (groups_of m)) k) (sym (number_at m s low)),
     )
