@@ -2,7 +2,7 @@
 use Rattle.std.proofs.Common.{◌≡◌, ℕ, zero, suc, ◌+◌, ◌<◌, Bool, true, false, cond, eqb, List, [], ◌∷◌, length, map, filter, get_or, set, Option, unwrap_or, sym, refl, ap, ◌∙◌, subst, ⊎_elim, add-one, arith, get_or-set_other}
 use native.Mathlib.Decide.{ℕ_discrete}
 use Rattle.std.specs.List.{fold, reduce, range_with_len}
-use Rattle.std.specs.Ordering.{ord_max, max_by_ordering}
+use Rattle.std.specs.Ordering.{max_by_ordering}
 use Rattle.std.proofs.lemmas.Bool.{cases_Bool, eq-eqb, ne_eqb, cond-false}
 use Rattle.std.proofs.lemmas.Grind.{get_or-set_at}
 use Rattle.systems.specs.Model.{Model}
@@ -16,10 +16,7 @@ use Rattle.groupings.specs.Joined.{asked}
 surer_absent : (k : Step) → surer k Absent ≡ k
 surer_absent k = grind arith
 
--- the greater of two steps, of which a search for the greatest takes the later one where they are equal
-pub max_is : (a b : Step) → ord_max ghosts.cmp a b ≡ surer a b
-max_is a b = grind arith
-
+-- the greater of two steps: a search for the greatest takes the later one where they are equal
 pub later_max_is : (a b : Step) → max_by_ordering (ghosts.cmp a b) a b ≡ surer a b
 later_max_is a b = grind arith
 

@@ -2,13 +2,25 @@
 ghost use Rattle.std.specs.Prelude.{◌≡◌, ◌<◌, map};
 ghost use Rattle.std.specs.List.{range_with_len};
 ghost use Rattle.systems.specs.Model.{mark_or_unknown};
-ghost use Rattle.colours.specs.Groupings.{strength, group_step, group_mark, group_start};
+ghost use Rattle.colours.specs.Groupings.{surer, strength, group_step, group_mark, group_start};
 ghost use Rattle.groupings.specs.Joined.{asked};
 ghost use Rattle.groupings.specs.Members.{group_of};
 ghost use Rattle.groupings.specs.Memberships.{groups_of};
 
 use super::fitted::Fitted;
 use systems::{Colour, Step, System};
+
+// The surer of two steps. `max` looks both up in a table, which shows in `strengths`, where every step of a system is
+// compared.
+fn surer(a: Step, b: Step) -> Step
+    ensures { result ≡ surer a b }
+{
+    if b == Step::Sure || a == Step::Absent {
+        b
+    } else {
+        a
+    }
+}
 
 impl<S: System> Fitted<'_, S> {
     // The strength of a state into a group: the best that its steps to the members offer.
@@ -30,7 +42,7 @@ impl<S: System> Fitted<'_, S> {
         let mut row = [Step::Absent; 128];
         for to in 0..self.system.states() {
             let group = self.members.group_of(to);
-            row[group] = row[group].max(self.system.step_or_absent(from, to));
+            row[group] = surer(row[group], self.system.step_or_absent(from, to));
         }
         row
     }

@@ -6,7 +6,7 @@ use Rattle.colours.specs.Groupings.{surer, surest, strength, step_into}
 use Rattle.groupings.specs.Joined.{asked}
 use Rattle.groupings.specs.Members.{group_of}
 use Rattle.groupings.specs.Memberships.{groups_of}
-use Rattle.groupings.proofs.Strengths.{gathered_more, max_is}
+use Rattle.groupings.proofs.Strengths.{gathered_more}
 use Rattle.groupings.proofs.groups.fitted.Fitted.strengths.Goals as goal
 
 pub loop-to-init : goal.loop-to-init
@@ -18,9 +18,9 @@ loop-to-preserved g c =
     let row = c.loop-to.row in
     let h = c.group_of-group.result in
     let low : h < length row = omega (arith, c.group_of-group.ensures.below.1) in (
-      length-set row h c.max.result ∙ c.loop-to.invariant.0,
-      gathered_more M (group_of (groups_of c.args.self.now.members)) c.args.from c.loop-to.to row h c.max.result c.group_of-group.ensures.is low
-          (c.max.ensures ∙ max_is (get_or row h Absent) c.step_or_absent.result ∙ ap (surer (get_or row h Absent)) c.step_or_absent.ensures.is)
+      length-set row h c.surer.result ∙ c.loop-to.invariant.0,
+      gathered_more M (group_of (groups_of c.args.self.now.members)) c.args.from c.loop-to.to row h c.surer.result c.group_of-group.ensures.is low
+          (c.surer.ensures ∙ ap (surer (get_or row h Absent)) c.step_or_absent.ensures.is)
           c.loop-to.invariant.1,
     )
 
