@@ -56,7 +56,8 @@ impl<S: System> Fitted<'_, S> {
             && self.answer(reason, state) != lead
     }
 
-    // Flags the members of the reason's group that do not answer as its lowest-numbered one does.
+    // Flags the members of the reason's group that do not answer as its lowest-numbered one does. A `for` over the
+    // states that there are, since an array made by `from_fn` asks for all its 128 places.
     fn dissenting(&self, reason: Reason) -> [bool; 128]
         requires { Within (group_count (groups_of self.now.members)) (S.meaning self.now.system.now).marks reason }
         ensures { Told (S.meaning self.now.system.now) reason (groups_of self.now.members) result }

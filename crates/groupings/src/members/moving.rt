@@ -5,7 +5,8 @@ ghost use Rattle.groupings.specs.Memberships.{groups_of};
 
 use super::Membership;
 
-// The numbers with this one at each of the first states that is flagged.
+// The numbers with this one at each of the first states that is flagged. A `for` over these alone, since an array
+// made by `from_fn` goes over all its 128 places.
 fn renumbered(numbers: &[u8; 128], states: usize, number: u8, flags: &[bool; 128]) -> [u8; 128]
     requires { states ≤ 128 }
     ensures at { (s : ℕ) → s < states → group_of result s ≡ (if flagged flags.now s then number else group_of numbers.now s) }

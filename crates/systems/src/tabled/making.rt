@@ -1,5 +1,6 @@
 // Making a table of its parts, where these are a system. The bound on the states
 // stands at each of the three tests: a struct for three short tests would say it no plainer.
+// They fold over a row to its end: with a way out before it, one place is tested in a turn of the loop.
 ghost use Rattle.std.specs.Prelude.{◌≡◌, ◌<◌, ◌≤◌, Some, None, MatchResult};
 ghost use Rattle.systems.specs.Below.{all_below, any_below};
 ghost use Rattle.systems.specs.Tabled.{leads_on, start_at, written_model, written_fault};
