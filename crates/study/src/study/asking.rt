@@ -50,11 +50,12 @@ impl<S: System> Study<S> {
         ensures agrees { Agrees (below S.System.meaning self.now) (ledger S.System.meaning self.now) (judge (length board.old) (room queue.old)) (judge_reply (positions_of S.System.meaning self.now) board.new result) (ledger S.System.meaning self.now) }
         ensures lent { Lent (positions_of S.System.meaning self.now) board.old queue.old board.new queue.new result }
     {
-        let Written { table, rule } = self.written();
-        colour(&table, &rule, board, queue)?;
-        let tally = count_positions(&table, &rule, board);
+        let written = self.written();
+        let (table, rule) = (&written.table, &written.rule);
+        colour(table, rule, board, queue)?;
+        let tally = count_positions(table, rule, board);
         Ok((
-            verdict(&table, &rule, board),
+            verdict(table, rule, board),
             tally.t,
             tally.f,
             tally.undecided,
@@ -75,13 +76,13 @@ impl<S: System> Study<S> {
     {
         let written = self.written();
         written.fits(&[board.len(), queue.capacity()])?;
-        let Written { table, rule } = written;
+        let (table, rule) = (&written.table, &written.rule);
         let members = self.grouping.members();
         if state >= members.states() || clause >= rule.count() {
             return Err(Refusal::NoSuchPosition);
         }
-        colour(&table, &rule, board, queue)?;
-        let shown = colour_at(&table, &rule, board, members.group_of(state), clause);
+        colour(table, rule, board, queue)?;
+        let shown = colour_at(table, rule, board, members.group_of(state), clause);
         Ok(shown.unwrap())
     }
 
@@ -101,12 +102,12 @@ impl<S: System> Study<S> {
     {
         let written = self.written();
         written.fits(&[board.len(), queue.capacity(), links.capacity(), chain.len()])?;
-        let Written { table, rule } = written;
-        colour(&table, &rule, board, queue)?;
-        if verdict(&table, &rule, board) != Colour::Undecided {
+        let (table, rule) = (&written.table, &written.rule);
+        colour(table, rule, board, queue)?;
+        if verdict(table, rule, board) != Colour::Undecided {
             return Err(Refusal::VerdictDecided);
         }
-        let (reason, length) = find_cause(&table, &rule, board, links, chain).unwrap();
+        let (reason, length) = find_cause(table, rule, board, links, chain).unwrap();
         Ok((Slip::of(reason), length))
     }
 }
